@@ -1,0 +1,49 @@
+-- Limits as a rule keeps them, stroke by stroke: what each remembers, and its test of the next strokes.
+use mathlib.Core.Bool.{Bool, true, _&&_, cond}
+use mathlib.Core.List.{List, [], _∷_}
+use Prim.Native.Nat.{ℕ, _+_, _-_, _*_, max}
+use lib.Dec.{leb, eqb}
+use Rattle.std.specs.declared.option.Option.{Option}
+use Rattle.std.specs.declared.option.Option.the-variants.{Some, None}
+use Rattle.rules.specs.Limits.{largest}
+use Rattle.rules.specs.Rules.{Meaning}
+
+-- a stair of burst n and period p remembers the tick w at which its burst is whole again, 0 at first
+abbrev pub afford : ℕ → ℕ → ℕ → List ℕ → Bool
+afford n p w [] = true
+afford n p w (t ∷ ts) = leb (w + p) (t + n * p) && afford n p (max t w + p) ts
+
+-- its own last stroke, as far as that number tells: none if the burst was never touched, else the least tick that it can have had
+abbrev pub stair-last : ℕ → ℕ → ℕ → Option ℕ
+stair-last n p w = cond (eqb w 0) None (Some (w - n * p))
+
+-- a table remembers its strokes, the newest first: each lies its given distance before t, as far as the given distances go
+abbrev pub spaced : List ℕ → List ℕ → ℕ → Bool
+spaced [] past t = true
+spaced (d ∷ ds) [] t = true
+spaced (d ∷ ds) (x ∷ xs) t = leb (x + d) t && spaced ds xs t
+
+abbrev pub keep-apart : List ℕ → List ℕ → List ℕ → Bool
+keep-apart given past [] = true
+keep-apart given past (t ∷ ts) = spaced given past t && keep-apart given (t ∷ past) ts
+
+-- its own last stroke: the latest that it remembers
+abbrev pub table-last : List ℕ → Option ℕ
+table-last [] = None
+table-last (x ∷ xs) = Some (largest (x ∷ xs))
+
+-- the later of two ticks, either of which may be missing
+abbrev pub later : Option ℕ → Option ℕ → Option ℕ
+later None y = y
+later (Some u) None = Some u
+later (Some u) (Some v) = Some (max u v)
+
+-- a test laid on a rule, with the last stroke of its own
+abbrev pub layered : Option ℕ → (List ℕ → Bool) → Meaning → Meaning
+layered own test m = record { last = later own (m .last); allows = λ ts. m .allows ts && test ts }
+
+abbrev pub stair-layer : ℕ → ℕ → ℕ → Meaning → Meaning
+stair-layer n p w m = layered (stair-last n p w) (afford n p w) m
+
+abbrev pub table-layer : List ℕ → List ℕ → Meaning → Meaning
+table-layer given past m = layered (table-last past) (keep-apart given past) m
