@@ -12,6 +12,7 @@ use Rattle.std.proofs.shelf.Ways.{tells}
 use mathlib.Core.Logic.{inl, inr}
 use Rattle.rules.specs.Strokes.{last-tick}
 use Rattle.rules.specs.Rules.{Meaning, may, Least, first-of, earliest}
+use Rattle.rules.specs.Layers.{layered}
 
 -- the first of the k numbers from t on that passes, or none of them does
 abbrev First : (ℕ → Bool) → ℕ → ℕ → Option ℕ → Type 0
@@ -51,21 +52,18 @@ only m t (Some d) (Some e) h k =
 pub least-earliest : (m : Meaning) (t : ℕ) (r : Option ℕ) → Least m t r → earliest m t ≡ r
 least-earliest m t r h = only m t (earliest m t) r (earliest-is m t) h
 
--- a layer that bars just the numbers before x
-abbrev pub Bars : ℕ → Meaning → Meaning → Type 0
-Bars x m l = (u : ℕ) → may l u ≡ (may m u && leb x u)
-
-barred : (x t : ℕ) (m l : Meaning) (r : Option ℕ) → Bars x m l → Least m (max t x) r → Least l t r
-barred x t m l None b h = λ u tu ul. let e = b u in let f = λ (xu : x ≤ u). h u (omega arith) ul in grind (arith, tells)
-barred x t m l (Some d) b h = (
+-- a limit that bars just the numbers before x, on a rule
+barred : (x t : ℕ) (own m : Meaning) (r : Option ℕ) → ((u : ℕ) → may own u ≡ leb x u) → Least m (max t x) r → Least (layered own m) t r
+barred x t own m None b h = λ u tu ul. let e = b u in let f = λ (xu : x ≤ u). h u (omega arith) ul in grind (arith, tells)
+barred x t own m (Some d) b h = (
   omega arith,
   h .1,
   (let e = b d in let f = h .2 in let g : x ≤ d = omega arith in grind (arith, tells)),
   λ u tu ud. let e = b u in let f = λ (xu : x ≤ u). h .3 u (omega arith) ud in grind (arith, tells),
 )
 
-pub earliest-barred : (x t : ℕ) (m l : Meaning) → Bars x m l → earliest l t ≡ earliest m (max t x)
-earliest-barred x t m l b = least-earliest l t (earliest m (max t x)) (barred x t m l (earliest m (max t x)) b (earliest-is m (max t x)))
+pub earliest-barred : (x t : ℕ) (own m : Meaning) → ((u : ℕ) → may own u ≡ leb x u) → earliest (layered own m) t ≡ earliest m (max t x)
+earliest-barred x t own m b = least-earliest (layered own m) t (earliest m (max t x)) (barred x t own m (earliest m (max t x)) b (earliest-is m (max t x)))
 
 -- past the last tick there is none
 pub earliest-past : (m : Meaning) (t : ℕ) → last-tick < t → earliest m t ≡ None

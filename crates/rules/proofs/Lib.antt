@@ -1,8 +1,15 @@
 mod Meanings
+mod Rising
+mod Shifts
 mod Least
+mod Laying
+mod LayerLaws
 mod OpenLaws
-mod Laid
 mod Stairs
 mod Walks
-mod StairLayers
+mod StairLaws
 mod StairSteps
+mod Tables
+mod TableWalks
+mod TableLaws
+mod TableSteps

@@ -1,12 +1,15 @@
--- What the calls on a rule answer: refusals by their numbers.
-use mathlib.Core.Bool.{cond}
+-- What the calls on a rule answer, refusals by their numbers, and what a limit remembers after a stroke.
+use mathlib.Core.Path.{_≡_}
+use mathlib.Core.Bool.{Bool, true, false, _&&_, cond}
 use Prim.Native.Nat.{ℕ}
-use lib.Dec.{ltb}
+use lib.Dec.{leb, ltb}
+use Rattle.std.specs.Options.{Cases}
 use Rattle.std.specs.declared.option.Option.{Option}
 use Rattle.std.specs.declared.result.Result.{Result}
 use Rattle.std.specs.declared.result.Result.the-variants.{Ok, Err}
 use Rattle.rules.specs.Strokes.{last-tick}
-use Rattle.rules.specs.Rules.{Meaning, may, earliest}
+use Rattle.rules.specs.Rules.{Meaning, may, struck, earliest}
+use Rattle.rules.specs.Layers.{layered}
 
 -- the earliest stroke from t on: a tick past the last one is refused by 2
 abbrev pub earliest-from : Meaning → ℕ → Result (Option ℕ) ℕ
@@ -15,3 +18,11 @@ earliest-from m t = cond (ltb last-tick t) (Err 2) (Ok (earliest m t))
 -- a strike at t: past the last tick it is refused by 2, and where the rule does not allow it by 14
 abbrev pub strike-at : Meaning → ℕ → Result (Unit {0}) ℕ
 strike-at m t = cond (ltb last-tick t) (Err 2) (cond (may m t) (Ok tt) (Err 14))
+
+-- a tick that may be struck
+abbrev pub can-strike : Meaning → ℕ → Bool
+can-strike m t = leb t last-tick && may m t
+
+-- a limit after a stroke at t, or none if it can not be struck there: laid on any rule that was struck at t, it is the whole struck at t
+abbrev pub Next : {T : Type 0} → (T → Meaning) → (T → ℕ) → T → ℕ → Option T → Type 0
+Next own span s t r = Cases r (can-strike (own s) t ≡ false) (λ next. (can-strike (own s) t ≡ true) × ((m : Meaning) → layered (own next) (struck t m) ≡ struck t (layered (own s) m)) × (span next ≡ span s))

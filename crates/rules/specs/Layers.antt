@@ -1,12 +1,28 @@
 -- Limits as a rule keeps them, stroke by stroke: what each remembers, and its test of the next strokes.
+use mathlib.Core.Path.{_≡_}
 use mathlib.Core.Bool.{Bool, true, _&&_, cond}
-use mathlib.Core.List.{List, [], _∷_}
+use mathlib.Core.List.{List, [], _∷_, _++_}
 use Prim.Native.Nat.{ℕ, _+_, _-_, _*_, max}
 use lib.Dec.{leb, eqb}
 use Rattle.std.specs.declared.option.Option.{Option}
 use Rattle.std.specs.declared.option.Option.the-variants.{Some, None}
 use Rattle.rules.specs.Limits.{largest}
 use Rattle.rules.specs.Rules.{Meaning}
+
+-- the later of two ticks, either of which may be missing
+abbrev pub later : Option ℕ → Option ℕ → Option ℕ
+later None y = y
+later (Some u) None = Some u
+later (Some u) (Some v) = Some (max u v)
+
+-- a limit laid on a rule: what both allow, and the later of their last strokes
+abbrev pub layered : Meaning → Meaning → Meaning
+layered own m = record { last = later (own .last) (m .last); allows = λ ts. m .allows ts && own .allows ts }
+
+-- what a limit alone keeps of the law of order: the rule below sees to it that lists never fall
+pub record Begins (own : Meaning) : Type 0 where
+  pub empty : own .allows [] ≡ true
+  pub beginning : (ts us : List ℕ) → own .allows (ts ++ us) ≡ true → own .allows ts ≡ true
 
 -- a stair of burst n and period p remembers the tick w at which its burst is whole again, 0 at first
 abbrev pub afford : ℕ → ℕ → ℕ → List ℕ → Bool
@@ -16,6 +32,9 @@ afford n p w (t ∷ ts) = leb (w + p) (t + n * p) && afford n p (max t w + p) ts
 -- its own last stroke, as far as that number tells: none if the burst was never touched, else the least tick that it can have had
 abbrev pub stair-last : ℕ → ℕ → ℕ → Option ℕ
 stair-last n p w = cond (eqb w 0) None (Some (w - n * p))
+
+abbrev pub stair-own : ℕ → ℕ → ℕ → Meaning
+stair-own n p w = record { last = stair-last n p w; allows = afford n p w }
 
 -- a table remembers its strokes, the newest first: each lies its given distance before t, as far as the given distances go
 abbrev pub spaced : List ℕ → List ℕ → ℕ → Bool
@@ -32,18 +51,5 @@ abbrev pub table-last : List ℕ → Option ℕ
 table-last [] = None
 table-last (x ∷ xs) = Some (largest (x ∷ xs))
 
--- the later of two ticks, either of which may be missing
-abbrev pub later : Option ℕ → Option ℕ → Option ℕ
-later None y = y
-later (Some u) None = Some u
-later (Some u) (Some v) = Some (max u v)
-
--- a test laid on a rule, with the last stroke of its own
-abbrev pub layered : Option ℕ → (List ℕ → Bool) → Meaning → Meaning
-layered own test m = record { last = later own (m .last); allows = λ ts. m .allows ts && test ts }
-
-abbrev pub stair-layer : ℕ → ℕ → ℕ → Meaning → Meaning
-stair-layer n p w m = layered (stair-last n p w) (afford n p w) m
-
-abbrev pub table-layer : List ℕ → List ℕ → Meaning → Meaning
-table-layer given past m = layered (table-last past) (keep-apart given past) m
+abbrev pub table-own : List ℕ → List ℕ → Meaning
+table-own given past = record { last = table-last past; allows = keep-apart given past }

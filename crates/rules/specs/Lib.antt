@@ -2,8 +2,8 @@ pub mod Strokes
 pub mod Limits
 pub mod Rules
 pub mod Refusals
-pub mod Calls
 pub mod Layers
+pub mod Calls
 pub mod Lots
 pub mod Making
 pub mod Values

@@ -1,0 +1,17 @@
+// What a stair remembers: one number, the tick at which its burst is whole again.
+//
+// With burst N and period p, strokes t(1) .. t(k) leave w(k), where w(0) = 0 and w(k) = max(t(k), w(k - 1)) + p.
+// The next stroke may come at t exactly if w(k) + p <= t + N * p. So one number stands for the whole past: no timer,
+// no counter, no gap that is clipped.
+ghost use Prim.Native.Nat.{_+_, _*_, _≤_};
+ghost use Rattle.rules.specs.Strokes.{last-tick};
+use crate::stair::Stair;
+
+pub mod counting;
+
+#[derive(Clone, Copy)]
+pub struct StairTally {
+    stair: Stair,
+    whole: u64,
+    ghost soon: { whole ≤ last-tick + stair .burst * stair .period },
+}

@@ -1,0 +1,18 @@
+// What a table remembers: as many of its last strokes as it has distances.
+ghost use Prim.Native.Nat.{_≤_};
+ghost use lib.ListN.{take};
+ghost use Rattle.rules.specs.Limits.{largest};
+ghost use Rattle.rules.specs.Strokes.{last-tick};
+use crate::table::Table;
+use crate::table_tally::past::Past;
+
+pub mod counting;
+mod past;
+
+#[derive(Clone, Copy)]
+pub struct TableTally {
+    table: Table,
+    past: Past,
+    ghost few: { past .count ≤ 16 },
+    ghost ticks: { largest (take (past .count) (past .strokes)) ≤ last-tick },
+}
