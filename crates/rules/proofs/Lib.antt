@@ -13,3 +13,4 @@ mod Tables
 mod TableWalks
 mod TableLaws
 mod TableSteps
+mod Audits

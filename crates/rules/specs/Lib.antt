@@ -6,4 +6,6 @@ pub mod Layers
 pub mod Calls
 pub mod Lots
 pub mod Making
+pub mod Jitter
+pub mod Audits
 pub mod Values

@@ -5,6 +5,7 @@ use lib.ListN.{take}
 use Rattle.rules.specs.Limits.{Limit, stair, table, largest}
 use Rattle.rules.specs.Rules.{Meaning, open-rule}
 use Rattle.rules.specs.Layers.{layered, stair-own, table-own}
+use Rattle.rules.specs.declared.jitter.JitteredOrder.{JitteredOrder}
 use Rattle.rules.specs.declared.layer.Layer.{Layer}
 use Rattle.rules.specs.declared.open_rule.OpenRule.{OpenRule}
 use Rattle.rules.specs.declared.stair.Stair.{Stair}
@@ -51,3 +52,7 @@ layer-means own below l = layered (own (l .tally)) (below (l .below))
 
 abbrev pub layer-reach : {T R : Type 0} → (T → ℕ) → (R → ℕ) → Layer T R → ℕ
 layer-reach span below l = max (below (l .below)) (span (l .tally))
+
+-- the two stairs of a jittered order
+abbrev pub jitter-of : JitteredOrder → Limit × Limit
+jitter-of o = (stair-of (o .first), stair-of (o .second))
