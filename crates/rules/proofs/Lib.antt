@@ -14,3 +14,5 @@ mod TableWalks
 mod TableLaws
 mod TableSteps
 mod Audits
+mod Bursts
+mod WorkedExamples

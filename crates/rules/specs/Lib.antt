@@ -9,3 +9,5 @@ pub mod Making
 pub mod Jitter
 pub mod Audits
 pub mod Values
+pub mod Bursts
+pub mod Examples

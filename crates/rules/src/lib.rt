@@ -1,5 +1,6 @@
 // Rules for hammers: when may a bell's coil fire?
 pub mod audit;
+pub mod burst;
 pub mod jitter;
 pub mod layer;
 pub mod open_rule;
