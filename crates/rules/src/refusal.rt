@@ -1,6 +1,9 @@
 // Why a call was refused.
 ghost use mathlib.Core.Path.{_≡_};
-ghost use Rattle.rules.specs.Refusals.{number};
+ghost use Rattle.std.specs.declared.option.Option.the-variants.{Some};
+ghost use Rattle.rules.specs.Refusals.{number, words};
+use std::error::Error;
+use std::fmt;
 
 #[derive(Clone, Copy, PartialEq, Eq, Debug)]
 pub enum Refusal {
@@ -25,4 +28,24 @@ impl Refusal {
             Refusal::NotAllowed => 14,
         }
     }
+    pub fn words(self) -> &'static str
+        ensures { λ r. ⌜ now r ≡ words self ⌝ }
+    {
+        match self {
+            Refusal::PastLastTick => "the tick is past the last one",
+            Refusal::OutOfRange => "a number is out of range",
+            Refusal::Full => "there is no more room",
+            Refusal::NotAllowed => "the rule does not allow the stroke",
+        }
+    }
 }
+
+pub impl fmt::Display for Refusal as RefusalDisplay {
+    ghost shown = { λ r. Some (words r) };
+
+    fn fmt<W: fmt::Write>(&self, f: &mut fmt::Formatter<W>) -> fmt::Result {
+        f.write_str(self.words())
+    }
+}
+
+pub impl Error for Refusal as RefusalError {}

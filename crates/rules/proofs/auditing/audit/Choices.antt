@@ -4,7 +4,7 @@ use mathlib.Core.Path.{_≡_}
 use lib.ListN.{drop}
 use Rattle.rules.specs.Audits.{ticks-of}
 use Rattle.rules.proofs.Audits.{So-far}
-use Rattle.rules.proofs.audit.audit.Given as given
+use Rattle.rules.proofs.auditing.audit.Given as given
 
 -- what is left to audit gives the answer, on the rule as it stands
 abbrev pub Inv-loop-i : given.InvT-loop-i

@@ -6,7 +6,7 @@ use Rattle.std.proofs.shelf.Ways.{tells}
 use Rattle.rules.specs.Rules.{earliest}
 use Rattle.rules.proofs.Bursts.{bursting-more, bursting-full, bursting-shut, burst-past, earliest-strikes}
 use Rattle.rules.proofs.WorkedExamples.{worked-examples}
-use Rattle.rules.proofs.burst.burst.Needs as need
+use Rattle.rules.proofs.bursting.burst.Needs as need
 
 pub returns-then-asked-gt-LAST-TICK : need.returns-then-asked-gt-LAST-TICK
 returns-then-asked-gt-LAST-TICK g c = record {

@@ -10,8 +10,8 @@ use Rattle.std.proofs.shelf.Lists.{drop-all}
 use Rattle.rules.specs.Audits.{ticks-of, Audited}
 use Rattle.rules.specs.Rules.{struck}
 use Rattle.rules.proofs.Audits.{So-far, so-far-taken, so-far-refused, so-far-done, refused-there, taken-there, left-refused, left-taken, ticks-mine, ticks-other}
-use Rattle.rules.proofs.audit.audit.Needs as need
-use Rattle.rules.proofs.audit.audit.Needs.{then-bell, else-bell·else-is-err}
+use Rattle.rules.proofs.auditing.audit.Needs as need
+use Rattle.rules.proofs.auditing.audit.Needs.{then-bell, else-bell·else-is-err}
 
 pub returns-then-is-err : need.returns-then-is-err
 returns-then-is-err g c =
