@@ -2,7 +2,7 @@ mod Meanings
 mod Rising
 mod Shifts
 mod Least
-mod Laying
+pub mod Laying
 mod LayerLaws
 mod OpenLaws
 mod Stairs

@@ -31,6 +31,15 @@ impl Stair {
     }
 }
 
+impl StairTally {
+    // The stair that was laid.
+    pub fn stair(&self) -> Stair
+        ensures { λ r. ⌜ r ≡ now (self .entry) .stair ⌝ }
+    {
+        self.stair
+    }
+}
+
 pub impl Tally for StairTally as StairTallyTally {
     ghost own = { stair-tally-own };
 

@@ -1,0 +1,84 @@
+// The rules of this program, and the due ticks of a burst at 0 under each.
+ghost use mathlib.Core.List.{[], _∷_};
+ghost use mathlib.Core.Path.{_≡_};
+ghost use Rattle.std.specs.declared.result.Result.the-variants.{Ok};
+ghost use Rattle.rules.specs.Limits.{stair, table};
+ghost use Rattle.rules.specs.Refusals.{told, told-by};
+ghost use Rattle.rules.specs.Rules.{pile};
+ghost use Rattle.curves.specs.Laid.{one-stair-means, two-stairs-means, three-stairs-means, one-table-means};
+use rules::JitteredOrder;
+use rules::Layer;
+use rules::LayerRule;
+use rules::OpenRule;
+use rules::OpenRuleRule;
+use rules::Refusal;
+use rules::Stair;
+use rules::StairTally;
+use rules::StairTallyTally;
+use rules::Table;
+use rules::TableTally;
+use rules::TableTallyTally;
+use rules::burst;
+
+pub type OneStair = Layer<StairTally, OpenRule>;
+pub type TwoStairs = Layer<StairTally, OneStair>;
+pub type ThreeStairs = Layer<StairTally, TwoStairs>;
+pub type OneTable = Layer<TableTally, OpenRule>;
+
+// The stairs (1, 1), (3, 4) and (5, 8).
+pub fn three_stairs() -> Result<ThreeStairs, Refusal>
+    ensures { λ r. ⌜ told-by three-stairs-means r ≡ Ok (pile (stair 1 1 ∷ stair 3 4 ∷ stair 5 8 ∷ [])) ⌝ }
+{
+    let slow = Stair::new(5, 8)?.on(OpenRule::new());
+    let middle = Stair::new(3, 4)?.on(slow);
+    Ok(Stair::new(1, 1)?.on(middle))
+}
+
+// When nine strokes that are asked for at 0 are due under them.
+pub fn nine_dues() -> Result<[u64; 9], Refusal>
+    ensures { λ r. ⌜ told r ≡ Ok (0 ∷ 1 ∷ 2 ∷ 4 ∷ 8 ∷ 12 ∷ 16 ∷ 24 ∷ 32 ∷ []) ⌝ }
+{
+    let mut rule = three_stairs()?;
+    let mut due = [0; 9];
+    burst(&mut rule, 0, &mut due)?;
+    Ok(due)
+}
+
+// The table 10, 30.
+pub fn two_distances() -> Result<OneTable, Refusal>
+    ensures { λ r. ⌜ told-by one-table-means r ≡ Ok (pile (table (10 ∷ 30 ∷ []) ∷ [])) ⌝ }
+{
+    let mut table = Table::new();
+    table.push(10)?;
+    table.push(30)?;
+    Ok(table.on(OpenRule::new()))
+}
+
+// When five strokes that are asked for at 0 are due under it.
+pub fn five_dues() -> Result<[u64; 5], Refusal>
+    ensures { λ r. ⌜ told r ≡ Ok (0 ∷ 10 ∷ 30 ∷ 40 ∷ 60 ∷ []) ⌝ }
+{
+    let mut rule = two_distances()?;
+    let mut due = [0; 5];
+    burst(&mut rule, 0, &mut due)?;
+    Ok(due)
+}
+
+// The two stairs of a chime drum with a stroke every 100 ticks, each up to 300 late, at least 20 apart.
+pub fn chime_drum() -> Result<TwoStairs, Refusal>
+    ensures { λ r. ⌜ told-by two-stairs-means r ≡ Ok (pile (stair 1 20 ∷ stair 4 100 ∷ [])) ⌝ }
+{
+    let order = JitteredOrder::new(100, 300, 20)?;
+    let first = order.first().on(OpenRule::new());
+    Ok(order.second().on(first))
+}
+
+// When ten strokes that are asked for at 0 are due under them.
+pub fn ten_dues() -> Result<[u64; 10], Refusal>
+    ensures { λ r. ⌜ told r ≡ Ok (0 ∷ 20 ∷ 40 ∷ 60 ∷ 100 ∷ 200 ∷ 300 ∷ 400 ∷ 500 ∷ 600 ∷ []) ⌝ }
+{
+    let mut rule = chime_drum()?;
+    let mut due = [0; 10];
+    burst(&mut rule, 0, &mut due)?;
+    Ok(due)
+}
