@@ -20,13 +20,16 @@ use rules::TableTally;
 use rules::TableTallyTally;
 use rules::burst;
 
-pub type OneStair = Layer<StairTally, OpenRule>;
-pub type TwoStairs = Layer<StairTally, OneStair>;
-pub type ThreeStairs = Layer<StairTally, TwoStairs>;
-pub type OneTable = Layer<TableTally, OpenRule>;
+pub(super) type OneStair = Layer<StairTally, OpenRule>;
+
+pub(super) type TwoStairs = Layer<StairTally, OneStair>;
+
+pub(super) type ThreeStairs = Layer<StairTally, TwoStairs>;
+
+pub(super) type OneTable = Layer<TableTally, OpenRule>;
 
 // The stairs (1, 1), (3, 4) and (5, 8).
-pub fn three_stairs() -> Result<ThreeStairs, Refusal>
+pub(super) fn three_stairs() -> Result<ThreeStairs, Refusal>
     ensures { λ r. ⌜ told-by three-stairs-means r ≡ Ok (pile (stair 1 1 ∷ stair 3 4 ∷ stair 5 8 ∷ [])) ⌝ }
 {
     let slow = Stair::new(5, 8)?.on(OpenRule::new());
@@ -35,7 +38,7 @@ pub fn three_stairs() -> Result<ThreeStairs, Refusal>
 }
 
 // When nine strokes that are asked for at 0 are due under them.
-pub fn nine_dues() -> Result<[u64; 9], Refusal>
+pub(super) fn nine_dues() -> Result<[u64; 9], Refusal>
     ensures { λ r. ⌜ told r ≡ Ok (0 ∷ 1 ∷ 2 ∷ 4 ∷ 8 ∷ 12 ∷ 16 ∷ 24 ∷ 32 ∷ []) ⌝ }
 {
     let mut rule = three_stairs()?;
@@ -45,7 +48,7 @@ pub fn nine_dues() -> Result<[u64; 9], Refusal>
 }
 
 // The table 10, 30.
-pub fn two_distances() -> Result<OneTable, Refusal>
+pub(super) fn two_distances() -> Result<OneTable, Refusal>
     ensures { λ r. ⌜ told-by one-table-means r ≡ Ok (pile (table (10 ∷ 30 ∷ []) ∷ [])) ⌝ }
 {
     let mut table = Table::new();
@@ -55,7 +58,7 @@ pub fn two_distances() -> Result<OneTable, Refusal>
 }
 
 // When five strokes that are asked for at 0 are due under it.
-pub fn five_dues() -> Result<[u64; 5], Refusal>
+pub(super) fn five_dues() -> Result<[u64; 5], Refusal>
     ensures { λ r. ⌜ told r ≡ Ok (0 ∷ 10 ∷ 30 ∷ 40 ∷ 60 ∷ []) ⌝ }
 {
     let mut rule = two_distances()?;
@@ -65,7 +68,7 @@ pub fn five_dues() -> Result<[u64; 5], Refusal>
 }
 
 // The two stairs of a chime drum with a stroke every 100 ticks, each up to 300 late, at least 20 apart.
-pub fn chime_drum() -> Result<TwoStairs, Refusal>
+pub(super) fn chime_drum() -> Result<TwoStairs, Refusal>
     ensures { λ r. ⌜ told-by two-stairs-means r ≡ Ok (pile (stair 1 20 ∷ stair 4 100 ∷ [])) ⌝ }
 {
     let order = JitteredOrder::new(100, 300, 20)?;
@@ -74,7 +77,7 @@ pub fn chime_drum() -> Result<TwoStairs, Refusal>
 }
 
 // When ten strokes that are asked for at 0 are due under them.
-pub fn ten_dues() -> Result<[u64; 10], Refusal>
+pub(super) fn ten_dues() -> Result<[u64; 10], Refusal>
     ensures { λ r. ⌜ told r ≡ Ok (0 ∷ 20 ∷ 40 ∷ 60 ∷ 100 ∷ 200 ∷ 300 ∷ 400 ∷ 500 ∷ 600 ∷ []) ⌝ }
 {
     let mut rule = chime_drum()?;

@@ -33,7 +33,10 @@ fn stroke(bell: u64, tick: u64) -> Stroke {
 
 fn tell_stairs(rt: &LibcRuntime) -> Result<(), AnyError> {
     let mut rule = three_stairs()?;
-    println!(rt, "Three stairs, each laid on the next. In any stretch of time there are")?;
+    println!(
+        rt,
+        "Three stairs, each laid on the next. In any stretch of time there are"
+    )?;
     tell_stair(rt, &rule.tally.stair())?;
     tell_stair(rt, &rule.below.tally.stair())?;
     tell_stair(rt, &rule.below.below.tally.stair())?;
@@ -55,20 +58,41 @@ fn tell_stairs(rt: &LibcRuntime) -> Result<(), AnyError> {
 fn tell_distances(rt: &LibcRuntime) -> Result<(), AnyError> {
     let mut rule = two_distances()?;
     println!(rt, "A table. There are")?;
-    tell_table(rt, rule.tally.table())?;
+    tell_table(rt, &rule.tally.table())?;
     tell_dues(rt, &five_dues()?)?;
-    let trace = [stroke(2, 5), stroke(1, 0), stroke(1, 10), stroke(1, 30), stroke(1, 39), stroke(1, 60)];
+    let trace = [
+        stroke(2, 5),
+        stroke(1, 0),
+        stroke(1, 10),
+        stroke(1, 30),
+        stroke(1, 39),
+        stroke(1, 60),
+    ];
     tell_audit(rt, 1, &trace, &mut rule)
 }
 
 fn tell_drum(rt: &LibcRuntime) -> Result<(), AnyError> {
     let mut rule = chime_drum()?;
-    println!(rt, "A chime drum strikes every 100 ms, each stroke up to 300 ms late, and none less than 20 ms after another.")?;
-    println!(rt, "That takes two stairs. In any stretch of time there are")?;
+    println!(
+        rt,
+        "A chime drum strikes every 100 ms, each stroke up to 300 ms late, and none less than 20 ms after another."
+    )?;
+    println!(
+        rt,
+        "That takes two stairs. In any stretch of time there are"
+    )?;
     tell_stair(rt, &rule.below.tally.stair())?;
     tell_stair(rt, &rule.tally.stair())?;
     tell_dues(rt, &ten_dues()?)?;
-    let trace = [stroke(1, 0), stroke(1, 20), stroke(2, 30), stroke(1, 40), stroke(1, 60), stroke(1, 99), stroke(1, 200)];
+    let trace = [
+        stroke(1, 0),
+        stroke(1, 20),
+        stroke(2, 30),
+        stroke(1, 40),
+        stroke(1, 60),
+        stroke(1, 99),
+        stroke(1, 200),
+    ];
     tell_audit(rt, 1, &trace, &mut rule)
 }
 

@@ -16,22 +16,28 @@ fn strokes(n: u64) -> &'static str {
     if n == 1 { "stroke" } else { "strokes" }
 }
 
-pub fn tell_stair(rt: &LibcRuntime, stair: &Stair) -> Result<(), AnyError> {
+pub(super) fn tell_stair(rt: &LibcRuntime, stair: &Stair) -> Result<(), AnyError> {
     let burst = stair.burst();
     let period = stair.period();
     let word = strokes(burst);
-    println!(rt, "  at most {burst} {word}, and one more for every {period} ms of its length;")?;
+    println!(
+        rt,
+        "  at most {burst} {word}, and one more for every {period} ms of its length;"
+    )?;
     Ok(())
 }
 
-pub fn tell_table(rt: &LibcRuntime, table: &Table) -> Result<(), AnyError> {
+pub(super) fn tell_table(rt: &LibcRuntime, table: &Table) -> Result<(), AnyError> {
     for (k, distance) in table.distances().iter().enumerate() {
         if k == 0 {
             println!(rt, "  at least {distance} ms from a stroke to the next;")?;
         } else {
             let between = k;
             let word = strokes(k as u64);
-            println!(rt, "  at least {distance} ms from a stroke to one with {between} {word} between;")?;
+            println!(
+                rt,
+                "  at least {distance} ms from a stroke to one with {between} {word} between;"
+            )?;
         }
     }
     Ok(())
@@ -48,16 +54,24 @@ fn tell_ticks(rt: &LibcRuntime, ticks: &[u64]) -> Result<(), AnyError> {
     Ok(())
 }
 
-pub fn tell_dues(rt: &LibcRuntime, due: &[u64]) -> Result<(), AnyError> {
+pub(super) fn tell_dues(rt: &LibcRuntime, due: &[u64]) -> Result<(), AnyError> {
     let count = due.len();
-    print!(rt, "Of {count} strokes asked for at 0 ms, each as early as that allows, the due ticks are ")?;
+    print!(
+        rt,
+        "{count} strokes asked for at 0 ms, each as early as that allows, are due at "
+    )?;
     tell_ticks(rt, due)?;
-    println!(rt, ".")?;
+    println!(rt, " ms.")?;
     Ok(())
 }
 
 // What the audit of one bell's strokes finds.
-pub fn tell_audit<R: Rule>(rt: &LibcRuntime, bell: u64, trace: &[Stroke], rule: &mut R) -> Result<(), AnyError> {
+pub(super) fn tell_audit<R: Rule>(
+    rt: &LibcRuntime,
+    bell: u64,
+    trace: &[Stroke],
+    rule: &mut R,
+) -> Result<(), AnyError> {
     print!(rt, "A recorder wrote down bell {bell} at")?;
     for stroke in trace {
         if stroke.bell == bell {
@@ -67,7 +81,10 @@ pub fn tell_audit<R: Rule>(rt: &LibcRuntime, bell: u64, trace: &[Stroke], rule: 
     }
     match audit(trace, bell, rule) {
         None => println!(rt, " ms: no stroke too many.")?,
-        Some(place) => println!(rt, " ms: stroke {place} is one too many, and came too soon.")?,
+        Some(place) => println!(
+            rt,
+            " ms: stroke {place} is one too many, and came too soon."
+        )?,
     }
     println!(rt, "")?;
     Ok(())

@@ -44,9 +44,9 @@ only m t None (Some e) h k = absurd (both-ways (may m e) (h e (k .0) (k .1)) (k 
 only m t (Some d) None h k = absurd (both-ways (may m d) (k d (h .0) (h .1)) (h .2))
 only m t (Some d) (Some e) h k =
     elim (cases-order d e) [
-      inl same ↦ ap {B = Option ℕ} Some same
-    | inr (inl less) ↦ absurd (both-ways (may m d) (k .3 d (h .0) less) (h .2))
-    | inr (inr more) ↦ absurd (both-ways (may m e) (h .3 e (k .0) more) (k .2))
+      | inl same ↦ ap {B = Option ℕ} Some same
+      | inr (inl less) ↦ absurd (both-ways (may m d) (k .3 d (h .0) less) (h .2))
+      | inr (inr more) ↦ absurd (both-ways (may m e) (h .3 e (k .0) more) (k .2))
     ]
 
 pub least-earliest : (m : Meaning) (t : ℕ) (r : Option ℕ) → Least m t r → earliest m t ≡ r

@@ -28,6 +28,7 @@ impl Refusal {
             Refusal::NotAllowed => 14,
         }
     }
+
     pub fn words(self) -> &'static str
         ensures { λ r. ⌜ now r ≡ words self ⌝ }
     {

@@ -4,6 +4,7 @@
 // The next stroke may come at t exactly if w(k) + p <= t + N * p. So one number stands for the whole past: no timer,
 // no counter, no gap that is clipped.
 ghost use Prim.Native.Nat.{_+_, _*_, _≤_};
+ghost use mathlib.Core.Path.{_≡_};
 ghost use Rattle.rules.specs.Strokes.{last-tick};
 use crate::stair::Stair;
 
@@ -14,4 +15,13 @@ pub struct StairTally {
     stair: Stair,
     whole: u64,
     ghost soon: { whole ≤ last-tick + stair .burst * stair .period },
+}
+
+impl StairTally {
+    // The stair that was laid.
+    pub fn stair(&self) -> Stair
+        ensures { λ r. ⌜ r ≡ now (self .entry) .stair ⌝ }
+    {
+        self.stair
+    }
 }

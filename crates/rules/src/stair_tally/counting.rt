@@ -25,18 +25,12 @@ impl Stair {
         ensures lots { λ _. ⌜ ((w : ℕ) → First-lot (layered (stair-own (self .burst) (self .period) w)) × Second-lot (layered (stair-own (self .burst) (self .period) w)) (self .period)) ⌝ }
     {
         Layer {
-            tally: StairTally { stair: self, whole: 0 },
+            tally: StairTally {
+                stair: self,
+                whole: 0,
+            },
             below,
         }
-    }
-}
-
-impl StairTally {
-    // The stair that was laid.
-    pub fn stair(&self) -> Stair
-        ensures { λ r. ⌜ r ≡ now (self .entry) .stair ⌝ }
-    {
-        self.stair
     }
 }
 

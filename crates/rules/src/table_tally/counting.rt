@@ -35,15 +35,6 @@ impl Table {
     }
 }
 
-impl TableTally {
-    // The table that was laid.
-    pub fn table(&self) -> &Table
-        ensures { λ r. ⌜ now r ≡ now (self .entry) .table ⌝ }
-    {
-        &self.table
-    }
-}
-
 pub impl Tally for TableTally as TableTallyTally {
     ghost own = { table-tally-own };
 

@@ -42,19 +42,19 @@ loop-i-again g c =
     let ts₀ = ticks-of (g .T·Record .rings) (g .T·Record .falls) (c .args .bell) (c .args .records .now) in
     let few = c .loop-i .inv .0 in
     elim (c .if-bell .came) [
-      then-bell w ↦
-        let other = ticks-other (g .T·Record .rings) (g .T·Record .falls) (c .args .bell) (c .args .records .now) i x (c .loop-i-test .taken) (c .index-records-i .is) (λ e. w .if-bell .taken (c .bell .ensures ∙ e)) in
-        let k : i + 1 + 1 - c .if-bell .others ≡ i + 1 - c .loop-i .others = omega (arith, w .others-is) in
-        (omega (arith, w .others-is), rw (k, w .rule-is, ← other) (c .loop-i .inv .1), rw (w .rule-is) (c .loop-i .inv .2))
-    | else-bell·else-is-err w ↦
-        let ok : isErr (w .strike .result) ≡ false = sym (w .if-is-err .ensures tt .value) in
-        let after : g .R·Rule .meaning (w .strike .last .self) ≡ struck (w .tick .result) m = left-taken (g .R·Rule .meaning (w .strike .last .self) ≡ struck (w .tick .result) m) (w .strike .last .self ≡ c .loop-i .rule) (w .strike .result) ok (w .strike .ensures .left) in
-        let taken = taken-there m (w .tick .result) (w .strike .result) (w .strike .ensures .answer) ok in
-        let mine = ticks-mine (g .T·Record .rings) (g .T·Record .falls) (c .args .bell) (c .args .records .now) i x (c .loop-i-test .taken) (c .index-records-i .is) (sym (c .bell .ensures) ∙ w .if-bell .left) in
-        let now : So-far m (i + 1 - c .loop-i .others) (w .tick .result ∷ more) m₀ ts₀ = rw (w .tick .ensures) (rw mine at (c .loop-i .inv .1)) in
-        let next = so-far-taken m (i + 1 - c .loop-i .others) m₀ ts₀ (g .R·Rule .meaning (w .strike .last .self)) (w .tick .result) more now taken after in
-        let k : i + 1 + 1 - c .if-bell .others ≡ suc (i + 1 - c .loop-i .others) = omega (arith, w .others-is) in
-        (omega (arith, w .others-is), rw (k, w .rule-is) next, rw (w .rule-is) (w .strike .ensures .same-reach ∙ c .loop-i .inv .2))
+      | then-bell w ↦
+          let other = ticks-other (g .T·Record .rings) (g .T·Record .falls) (c .args .bell) (c .args .records .now) i x (c .loop-i-test .taken) (c .index-records-i .is) (λ e. w .if-bell .taken (c .bell .ensures ∙ e)) in
+          let k : i + 1 + 1 - c .if-bell .others ≡ i + 1 - c .loop-i .others = omega (arith, w .others-is) in
+          (omega (arith, w .others-is), rw (k, w .rule-is, ← other) (c .loop-i .inv .1), rw (w .rule-is) (c .loop-i .inv .2))
+      | else-bell·else-is-err w ↦
+          let ok : isErr (w .strike .result) ≡ false = sym (w .if-is-err .ensures tt .value) in
+          let after : g .R·Rule .meaning (w .strike .last .self) ≡ struck (w .tick .result) m = left-taken (g .R·Rule .meaning (w .strike .last .self) ≡ struck (w .tick .result) m) (w .strike .last .self ≡ c .loop-i .rule) (w .strike .result) ok (w .strike .ensures .left) in
+          let taken = taken-there m (w .tick .result) (w .strike .result) (w .strike .ensures .answer) ok in
+          let mine = ticks-mine (g .T·Record .rings) (g .T·Record .falls) (c .args .bell) (c .args .records .now) i x (c .loop-i-test .taken) (c .index-records-i .is) (sym (c .bell .ensures) ∙ w .if-bell .left) in
+          let now : So-far m (i + 1 - c .loop-i .others) (w .tick .result ∷ more) m₀ ts₀ = rw (w .tick .ensures) (rw mine at (c .loop-i .inv .1)) in
+          let next = so-far-taken m (i + 1 - c .loop-i .others) m₀ ts₀ (g .R·Rule .meaning (w .strike .last .self)) (w .tick .result) more now taken after in
+          let k : i + 1 + 1 - c .if-bell .others ≡ suc (i + 1 - c .loop-i .others) = omega (arith, w .others-is) in
+          (omega (arith, w .others-is), rw (k, w .rule-is) next, rw (w .rule-is) (w .strike .ensures .same-reach ∙ c .loop-i .inv .2))
     ]
 
 pub returns : need.returns

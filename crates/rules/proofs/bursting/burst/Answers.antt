@@ -42,8 +42,7 @@ loop-i-again g c =
     let m = g .R·Rule .meaning (c .loop-i .rule) in
     let answer = c .in-Continue-tick .ensures tt in
     let some : earliest m (c .args .asked) ≡ Some (c .in-Some .tick) = let is = c .in-Some .is in grind (arith, tells) in
-    let struck = c .in-Continue-strike .ensures tt in
-    (
+    let struck = c .in-Continue-strike .ensures tt in (
       bursting-more (g .R·Rule .meaning (c .args .rule .now)) (c .args .asked) (c .args .due .now) (c .loop-i .i) m (c .loop-i .due) (c .in-Some .tick) (g .R·Rule .meaning (c .strike .last .self)) (omega arith) (c .loop-i .inv .0) some (struck .left),
       struck .same-reach ∙ c .loop-i .inv .1,
     )

@@ -21,8 +21,8 @@ returns-then-distance-gt-LONGEST c =
     let rise = rising-push (given s) (c .args .distance) in
     record {
       answer = elim (c .then-distance-gt-LONGEST .came) [
-        then-distance-gt-LONGEST·by·then-distance-gt-LONGEST w ↦ grind (arith, tells)
-      | then-distance-gt-LONGEST·by·else-distance-gt-LONGEST·then-distance-largest w ↦ grind (arith, tells)
+        | then-distance-gt-LONGEST·by·then-distance-gt-LONGEST w ↦ grind (arith, tells)
+        | then-distance-gt-LONGEST·by·else-distance-gt-LONGEST·then-distance-largest w ↦ grind (arith, tells)
       ];
       left = refl;
     }

@@ -23,8 +23,7 @@ pub returns : need.returns
 returns c =
     let s = c .args .self .now in
     let may = c .opens .ensures (c .args .t) in
-    let free : s .whole + s .stair .period ≤ c .args .t + s .stair .burst * s .stair .period = grind (arith, tells) in
-    (
+    let free : s .whole + s .stair .period ≤ c .args .t + s .stair .burst * s .stair .period = grind (arith, tells) in (
       grind (arith, tells),
       λ m. rw (c .max .ensures, c .period .ensures) (stair-struck (s .stair .burst) (s .stair .period) (s .whole) (c .args .t) m (s .stair .some) (s .stair .lasts) free),
       refl,

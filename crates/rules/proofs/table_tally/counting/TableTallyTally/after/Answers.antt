@@ -41,8 +41,7 @@ returns c =
     let may = c .opens .ensures t in
     let opens = table-opens ds (remembered (s .past)) t in
     let free : largest-sum ds (remembered (s .past)) ≤ t = grind (arith, tells) in
-    let past = c .remember .ensures .strokes ∙ ap (λ (k : ℕ). take k (t ∷ remembered (s .past))) e in
-    (
+    let past = c .remember .ensures .strokes ∙ ap (λ (k : ℕ). take k (t ∷ remembered (s .past))) e in (
       grind (arith, tells),
       λ m. table-struck ds (remembered (s .past)) (remembered (c .remember .last .self)) t m free past,
       refl,
