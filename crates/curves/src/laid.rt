@@ -2,23 +2,25 @@
 ghost use mathlib.Core.List.{[], _∷_};
 ghost use mathlib.Core.Path.{_≡_};
 ghost use Rattle.std.specs.declared.result.Result.the-variants.{Ok};
-ghost use Rattle.rules.specs.Limits.{stair, table};
-ghost use Rattle.rules.specs.Refusals.{told, told-by};
+ghost use Rattle.limits.specs.Limits.{stair, table};
+ghost use Rattle.limits.specs.Refusals.{told, told-by};
 ghost use Rattle.rules.specs.Rules.{pile};
 ghost use Rattle.curves.specs.Laid.{one-stair-means, two-stairs-means, three-stairs-means, one-table-means};
-use rules::JitteredOrder;
+use limits::JitteredOrder;
+use limits::Refusal;
+use limits::Stair;
+use limits::Table;
 use rules::Layer;
 use rules::LayerRule;
 use rules::OpenRule;
 use rules::OpenRuleRule;
-use rules::Refusal;
-use rules::Stair;
 use rules::StairTally;
 use rules::StairTallyTally;
-use rules::Table;
 use rules::TableTally;
 use rules::TableTallyTally;
 use rules::burst;
+use rules::stair_on;
+use rules::table_on;
 
 pub(super) type OneStair = Layer<StairTally, OpenRule>;
 
@@ -32,9 +34,9 @@ pub(super) type OneTable = Layer<TableTally, OpenRule>;
 pub(super) fn three_stairs() -> Result<ThreeStairs, Refusal>
     ensures { λ r. ⌜ told-by three-stairs-means r ≡ Ok (pile (stair 1 1 ∷ stair 3 4 ∷ stair 5 8 ∷ [])) ⌝ }
 {
-    let slow = Stair::new(5, 8)?.on(OpenRule::new());
-    let middle = Stair::new(3, 4)?.on(slow);
-    Ok(Stair::new(1, 1)?.on(middle))
+    let slow = stair_on(Stair::new(5, 8)?, OpenRule::new());
+    let middle = stair_on(Stair::new(3, 4)?, slow);
+    Ok(stair_on(Stair::new(1, 1)?, middle))
 }
 
 // When nine strokes that are asked for at 0 are due under them.
@@ -54,7 +56,7 @@ pub(super) fn two_distances() -> Result<OneTable, Refusal>
     let mut table = Table::new();
     table.push(10)?;
     table.push(30)?;
-    Ok(table.on(OpenRule::new()))
+    Ok(table_on(table, OpenRule::new()))
 }
 
 // When five strokes that are asked for at 0 are due under it.
@@ -72,8 +74,8 @@ pub(super) fn chime_drum() -> Result<TwoStairs, Refusal>
     ensures { λ r. ⌜ told-by two-stairs-means r ≡ Ok (pile (stair 1 20 ∷ stair 4 100 ∷ [])) ⌝ }
 {
     let order = JitteredOrder::new(100, 300, 20)?;
-    let first = order.first().on(OpenRule::new());
-    Ok(order.second().on(first))
+    let first = stair_on(order.first(), OpenRule::new());
+    Ok(stair_on(order.second(), first))
 }
 
 // When ten strokes that are asked for at 0 are due under them.

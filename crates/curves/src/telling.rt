@@ -1,14 +1,14 @@
 // The sentences that this program prints.
-use rules::Record;
-use rules::RefusalDebug;
-use rules::RefusalDisplay;
-use rules::RefusalError;
+use limits::RefusalDebug;
+use limits::RefusalDisplay;
+use limits::RefusalError;
+use limits::Stair;
+use limits::Table;
+use records::Record;
+use records::Stroke;
+use records::StrokeRecord;
+use records::audit;
 use rules::Rule;
-use rules::Stair;
-use rules::Stroke;
-use rules::StrokeRecord;
-use rules::Table;
-use rules::audit;
 use std::error::AnyError;
 
 // "1 stroke", "3 strokes".

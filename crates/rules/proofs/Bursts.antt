@@ -11,7 +11,7 @@ use Rattle.std.specs.declared.option.Option.the-variants.{Some, None}
 use Rattle.std.specs.declared.result.Result.the-variants.{Ok, Err}
 use Rattle.std.proofs.shelf.Lists.{take-more-set, take-append-drop, drop-set-lt, drop-drop}
 use Rattle.std.proofs.shelf.Ways.{tells}
-use Rattle.rules.specs.Strokes.{last-tick}
+use Rattle.limits.specs.Strokes.{last-tick}
 use Rattle.rules.specs.Rules.{Meaning, may, struck, earliest}
 use Rattle.rules.specs.Calls.{can-strike}
 use Rattle.rules.specs.Bursts.{dues, struck-by, burst-answer, Burst}

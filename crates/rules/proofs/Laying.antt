@@ -5,7 +5,7 @@ use mathlib.Core.List.{List}
 use Prim.Native.Nat.{ℕ}
 use Rattle.std.specs.Orderings.{Decides}
 use Rattle.std.proofs.shelf.Ways.{decides-at, decides-and}
-use Rattle.rules.specs.Limits.{Limit, keeps, Keeps}
+use Rattle.limits.specs.Limits.{Limit, keeps, Keeps}
 use Rattle.rules.specs.Rules.{Meaning, laid}
 
 -- exactly what the rule below allows and the limit keeps

@@ -10,7 +10,7 @@ use Rattle.std.specs.declared.option.Option.the-variants.{Some, None}
 use Rattle.std.proofs.shelf.Tests.{both-ways, cases-order}
 use Rattle.std.proofs.shelf.Ways.{tells}
 use mathlib.Core.Logic.{inl, inr}
-use Rattle.rules.specs.Strokes.{last-tick}
+use Rattle.limits.specs.Strokes.{last-tick}
 use Rattle.rules.specs.Rules.{Meaning, may, Least, first-of, earliest}
 use Rattle.rules.specs.Layers.{layered}
 

@@ -1,5 +1,4 @@
 mod Meanings
-mod Rising
 mod Shifts
 mod Least
 pub mod Laying
@@ -13,6 +12,5 @@ mod Tables
 mod TableWalks
 mod TableLaws
 mod TableSteps
-mod Audits
 mod Bursts
 mod WorkedExamples

@@ -8,7 +8,7 @@ use Rattle.std.specs.Options.{valueOr}
 use Rattle.std.specs.declared.option.Option.{Option}
 use Rattle.std.specs.declared.option.Option.the-variants.{Some, None}
 use Rattle.std.proofs.shelf.Ways.{tells}
-use Rattle.rules.specs.Strokes.{rises-from, never-falls, No-later}
+use Rattle.limits.specs.Strokes.{rises-from, never-falls, No-later}
 use Rattle.rules.specs.Rules.{Order, Early, Late, Reach, may, open-rule}
 use lib.Dec.{leb}
 

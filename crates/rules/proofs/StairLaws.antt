@@ -6,7 +6,7 @@ use Prim.Native.Nat.{ℕ, _+_, _*_, _≤_, max}
 use native.Mathlib.Nat.{mul-le-mul-right}
 use native.Mathlib.Omega.{arith}
 use Rattle.std.proofs.shelf.Ways.{tells}
-use Rattle.rules.specs.Strokes.{No-later}
+use Rattle.limits.specs.Strokes.{No-later}
 use Rattle.rules.specs.Layers.{afford, stair-own, Begins}
 use Rattle.rules.specs.Rules.{Early, Late, Reach}
 

@@ -5,8 +5,8 @@ use native.Mathlib.Nat.{mul-le-mul, mul-le-mul-right}
 use native.Mathlib.Omega.{arith}
 use lib.Dec.{leb}
 use Rattle.std.proofs.shelf.Ways.{tells}
-use Rattle.rules.specs.Strokes.{longest}
-use Rattle.rules.specs.Limits.{stair, keeps}
+use Rattle.limits.specs.Strokes.{longest}
+use Rattle.limits.specs.Limits.{stair, keeps}
 use Rattle.rules.specs.Rules.{Meaning, may, struck, laid, Order}
 use Rattle.rules.specs.Layers.{afford, layered, stair-own}
 use Rattle.rules.proofs.Walks.{stair-walk}

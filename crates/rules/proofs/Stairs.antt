@@ -6,9 +6,9 @@ use Prim.Native.Nat.{ℕ, suc, _+_, _-_, _/_, _≤_}
 use native.Mathlib.Nat.{le-div-iff-mul-le, div-mul-le-self, le-trans}
 use native.Mathlib.Omega.{arith}
 use Rattle.std.proofs.shelf.Ways.{tells}
-use Rattle.rules.specs.Strokes.{rises-from}
+use Rattle.limits.specs.Strokes.{rises-from}
 use Rattle.std.specs.Orderings.{Decides}
-use Rattle.rules.specs.Limits.{within, full-from, few-enough, Keeps-stair, keeps-stair}
+use Rattle.limits.specs.Limits.{within, full-from, few-enough, Keeps-stair, keeps-stair}
 
 div-mono : (p x y : ℕ) → 1 ≤ p → x ≤ y → x / p ≤ y / p
 div-mono p x y hp h = le-div-iff-mul-le hp .1 (le-trans (div-mul-le-self x p) h)

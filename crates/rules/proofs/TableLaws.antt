@@ -7,8 +7,8 @@ use native.Mathlib.Omega.{arith}
 use lib.ListN.{length}
 use Rattle.std.specs.declared.option.Option.the-variants.{Some, None}
 use Rattle.std.proofs.shelf.Ways.{tells}
-use Rattle.rules.specs.Strokes.{No-later}
-use Rattle.rules.specs.Limits.{largest}
+use Rattle.limits.specs.Strokes.{No-later}
+use Rattle.limits.specs.Limits.{largest}
 use Rattle.rules.specs.Layers.{spaced, keep-apart, table-last, table-own, Begins}
 use Rattle.rules.specs.Rules.{Early, Late, Reach}
 

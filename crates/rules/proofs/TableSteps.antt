@@ -9,7 +9,7 @@ use lib.ListN.{length, take, drop, getD}
 use Rattle.std.specs.declared.option.Option.the-variants.{Some}
 use Rattle.std.proofs.shelf.Lists.{take-take}
 use Rattle.std.proofs.shelf.Ways.{tells}
-use Rattle.rules.specs.Limits.{table, keeps, largest, largest-sum}
+use Rattle.limits.specs.Limits.{table, keeps, largest, largest-sum}
 use Rattle.rules.specs.Rules.{Meaning, may, struck, laid, Order}
 use Rattle.rules.specs.Layers.{spaced, keep-apart, table-last, table-own, later, layered}
 use Rattle.rules.proofs.TableWalks.{table-walk}

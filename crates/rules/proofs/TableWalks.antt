@@ -10,8 +10,8 @@ use mathlib.Core.Logic.{⊎-elim}
 use Rattle.std.proofs.shelf.Lists.{getD-reverse, reverse-reverse}
 use Rattle.std.proofs.shelf.Tests.{cases-lt}
 use Rattle.std.proofs.shelf.Ways.{tells, same-from-decides}
-use Rattle.rules.specs.Strokes.{rises-from, never-falls}
-use Rattle.rules.specs.Limits.{largest-sum, extended, distance, far-enough}
+use Rattle.limits.specs.Strokes.{rises-from, never-falls}
+use Rattle.limits.specs.Limits.{largest-sum, extended, distance, far-enough}
 use Rattle.rules.specs.Layers.{spaced, keep-apart}
 use Rattle.rules.proofs.Tables.{Apart, far-apart, apart-far}
 

@@ -7,7 +7,7 @@ use native.Mathlib.Omega.{arith}
 use lib.ListN.{length, getD}
 use Rattle.std.specs.Orderings.{Decides}
 use Rattle.std.proofs.shelf.Ways.{tells}
-use Rattle.rules.specs.Limits.{distance, apart-from, far-enough, Keeps-table, keeps-table}
+use Rattle.limits.specs.Limits.{distance, apart-from, far-enough, Keeps-table, keeps-table}
 
 -- every distance is kept
 abbrev pub Apart : List ℕ → List ℕ → Type 0

@@ -7,8 +7,8 @@ use native.Mathlib.Nat.{div-mul-le-self, lt-div-mul-add, mul-le-mul-right}
 use native.Mathlib.Omega.{arith}
 use lib.Dec.{leb}
 use Rattle.std.proofs.shelf.Ways.{tells}
-use Rattle.rules.specs.Strokes.{rises-from, never-falls}
-use Rattle.rules.specs.Limits.{full-from, few-enough}
+use Rattle.limits.specs.Strokes.{rises-from, never-falls}
+use Rattle.limits.specs.Limits.{full-from, few-enough}
 use Rattle.rules.specs.Layers.{afford}
 
 -- the k-th stroke of the list lies no more than n periods before s + k periods

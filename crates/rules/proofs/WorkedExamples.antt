@@ -4,7 +4,7 @@ use mathlib.Core.List.{[], _∷_}
 use native.Mathlib.Omega.{arith}
 use lib.Dec.{lit≤}
 use Rattle.std.proofs.shelf.Ways.{not-from-decides}
-use Rattle.rules.specs.Limits.{keeps-stair}
+use Rattle.limits.specs.Limits.{keeps-stair}
 use Rattle.rules.specs.Examples.{Worked-examples}
 use Rattle.rules.proofs.Stairs.{decides-stair}
 

@@ -8,7 +8,7 @@ use lib.ListN.{length, drop, replicate}
 use Rattle.std.specs.declared.option.Option.the-variants.{Some, None}
 use Rattle.std.specs.declared.result.Result.{Result}
 use Rattle.std.specs.declared.result.Result.the-variants.{Ok, Err}
-use Rattle.rules.specs.Strokes.{last-tick}
+use Rattle.limits.specs.Strokes.{last-tick}
 use Rattle.rules.specs.Rules.{Meaning, struck, earliest}
 
 -- the ticks at which they are due: each the earliest from the tick asked, on the rule struck by those before; where there is none, the list ends

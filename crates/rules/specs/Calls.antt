@@ -7,7 +7,7 @@ use Rattle.std.specs.Options.{Cases}
 use Rattle.std.specs.declared.option.Option.{Option}
 use Rattle.std.specs.declared.result.Result.{Result}
 use Rattle.std.specs.declared.result.Result.the-variants.{Ok, Err}
-use Rattle.rules.specs.Strokes.{last-tick}
+use Rattle.limits.specs.Strokes.{last-tick}
 use Rattle.rules.specs.Rules.{Meaning, may, struck, earliest}
 use Rattle.rules.specs.Layers.{layered}
 

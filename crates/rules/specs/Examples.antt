@@ -5,10 +5,10 @@ use mathlib.Core.List.{List, [], _∷_}
 use Prim.Native.Nat.{ℕ}
 use lib.ListN.{replicate}
 use Rattle.std.specs.declared.result.Result.the-variants.{Ok}
-use Rattle.rules.specs.Limits.{stair, table, Keeps-stair}
+use Rattle.limits.specs.Limits.{stair, table, Keeps-stair}
 use Rattle.rules.specs.Rules.{Meaning, pile, may, struck}
 use Rattle.rules.specs.Bursts.{dues}
-use Rattle.rules.specs.Jitter.{jittered}
+use Rattle.limits.specs.Jitter.{jittered}
 
 -- the stair (2, 100) on the table 50
 abbrev pub stair-on-table : Meaning

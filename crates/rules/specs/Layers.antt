@@ -6,7 +6,7 @@ use Prim.Native.Nat.{ℕ, _+_, _-_, _*_, max}
 use lib.Dec.{leb, eqb}
 use Rattle.std.specs.declared.option.Option.{Option}
 use Rattle.std.specs.declared.option.Option.the-variants.{Some, None}
-use Rattle.rules.specs.Limits.{largest}
+use Rattle.limits.specs.Limits.{largest}
 use Rattle.rules.specs.Rules.{Meaning}
 
 -- the later of two ticks, either of which may be missing

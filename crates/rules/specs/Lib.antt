@@ -1,13 +1,7 @@
-pub mod Strokes
-pub mod Limits
 pub mod Rules
-pub mod Refusals
 pub mod Layers
 pub mod Calls
 pub mod Lots
-pub mod Making
-pub mod Jitter
-pub mod Audits
-pub mod Values
 pub mod Bursts
 pub mod Examples
+pub mod Values

@@ -6,8 +6,8 @@ use Prim.Native.Nat.{ℕ, zero, suc, _+_, _-_, _≤_, _<_}
 use Rattle.std.specs.Options.{Cases}
 use Rattle.std.specs.declared.option.Option.{Option}
 use Rattle.std.specs.declared.option.Option.the-variants.{Some, None}
-use Rattle.rules.specs.Strokes.{last-tick, rises-from, never-falls, No-later}
-use Rattle.rules.specs.Limits.{Limit, keeps}
+use Rattle.limits.specs.Strokes.{last-tick, rises-from, never-falls, No-later}
+use Rattle.limits.specs.Limits.{Limit, keeps}
 
 -- a rule means two things: its last stroke, or none, and the set of lists of strokes that it allows next
 pub record Meaning : Type 0 where

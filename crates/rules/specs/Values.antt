@@ -1,28 +1,16 @@
--- What the values of the code stand for: limits by their numbers, rules by what they mean.
+-- What the values of the code stand for: rules by what they mean.
 use mathlib.Core.List.{List}
 use Prim.Native.Nat.{ℕ, max}
 use lib.ListN.{take}
-use Rattle.rules.specs.Limits.{Limit, stair, table, largest}
+use Rattle.limits.specs.Limits.{largest}
+use Rattle.limits.specs.Values.{burst-of, period-of, given}
 use Rattle.rules.specs.Rules.{Meaning, open-rule}
 use Rattle.rules.specs.Layers.{layered, stair-own, table-own}
-use Rattle.rules.specs.declared.jitter.JitteredOrder.{JitteredOrder}
 use Rattle.rules.specs.declared.layer.Layer.{Layer}
 use Rattle.rules.specs.declared.open_rule.OpenRule.{OpenRule}
-use Rattle.rules.specs.declared.stair.Stair.{Stair}
 use Rattle.rules.specs.declared.stair_tally.StairTally.{StairTally}
-use Rattle.rules.specs.declared.table.Table.{Table}
 use Rattle.rules.specs.declared.table_tally.TableTally.{TableTally}
 use Rattle.rules.specs.declared.table_tally.past.Past.{Past}
-
-abbrev pub stair-of : Stair → Limit
-stair-of s = stair (s .burst) (s .period)
-
--- a table's given distances
-abbrev pub given : Table → List ℕ
-given x = take (x .count) (x .distances)
-
-abbrev pub table-of : Table → Limit
-table-of x = table (given x)
 
 -- what an open rule means
 abbrev pub open-means : OpenRule → Meaning
@@ -30,10 +18,10 @@ open-means r = open-rule (r .last)
 
 -- a stair alone, with what it remembers, and how long it can bar the next stroke
 abbrev pub stair-tally-own : StairTally → Meaning
-stair-tally-own s = stair-own (s .stair .burst) (s .stair .period) (s .whole)
+stair-tally-own s = stair-own (burst-of (s .stair)) (period-of (s .stair)) (s .whole)
 
 abbrev pub stair-tally-span : StairTally → ℕ
-stair-tally-span s = s .stair .period
+stair-tally-span s = period-of (s .stair)
 
 -- the strokes that a table remembers, the newest first
 abbrev pub remembered : Past → List ℕ
@@ -52,7 +40,3 @@ layer-means own below l = layered (own (l .tally)) (below (l .below))
 
 abbrev pub layer-reach : {T R : Type 0} → (T → ℕ) → (R → ℕ) → Layer T R → ℕ
 layer-reach span below l = max (below (l .below)) (span (l .tally))
-
--- the two stairs of a jittered order
-abbrev pub jitter-of : JitteredOrder → Limit × Limit
-jitter-of o = (stair-of (o .first), stair-of (o .second))

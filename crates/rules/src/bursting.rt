@@ -2,10 +2,10 @@
 ghost use mathlib.Core.Path.{_≡_};
 ghost use Rattle.rules.specs.Bursts.{Burst};
 ghost use Rattle.rules.specs.Examples.{Worked-examples};
-ghost use Rattle.rules.specs.Refusals.{told};
-use crate::refusal::Refusal;
+ghost use Rattle.limits.specs.Refusals.{told};
 use crate::rule::Rule;
-use crate::tick::LAST_TICK;
+use limits::LAST_TICK;
+use limits::Refusal;
 
 // Asks for as many strokes as there are places, all at one tick, strikes the rule as early as it allows for each, and
 // writes down the due ticks. Answers how many there are: fewer than places only where no tick up to the last one suits

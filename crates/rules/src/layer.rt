@@ -1,9 +1,9 @@
 // A limit on any rule.
 ghost use Rattle.rules.specs.Values.{layer-means, layer-reach};
-use crate::refusal::Refusal;
 use crate::rule::Rule;
 use crate::tally::Tally;
-use crate::tick::LAST_TICK;
+use limits::LAST_TICK;
+use limits::Refusal;
 
 #[derive(Clone, Copy)]
 pub struct Layer<T, R> {

@@ -4,9 +4,9 @@ ghost use Rattle.std.specs.Options.{valueOr};
 ghost use Rattle.std.specs.declared.option.Option.the-variants.{None};
 ghost use Rattle.rules.specs.Rules.{open-rule};
 ghost use Rattle.rules.specs.Values.{open-means};
-use crate::refusal::Refusal;
 use crate::rule::Rule;
-use crate::tick::LAST_TICK;
+use limits::LAST_TICK;
+use limits::Refusal;
 
 #[derive(Clone, Copy)]
 pub struct OpenRule {

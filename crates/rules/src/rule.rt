@@ -3,10 +3,10 @@ ghost use Prim.Native.Nat.{ℕ, _≤_};
 ghost use mathlib.Core.Path.{_≡_};
 ghost use Rattle.std.specs.Results.{Cases as ByOk};
 ghost use Rattle.rules.specs.Calls.{earliest-from, strike-at};
-ghost use Rattle.rules.specs.Refusals.{told};
+ghost use Rattle.limits.specs.Refusals.{told};
 ghost use Rattle.rules.specs.Rules.{Meaning, may, struck, Order, Early, Late, Reach};
-ghost use Rattle.rules.specs.Strokes.{longest};
-use crate::refusal::Refusal;
+ghost use Rattle.limits.specs.Strokes.{longest};
+use limits::Refusal;
 
 pub trait Rule {
     // its last stroke, or none, and the lists of strokes that it allows next

@@ -5,8 +5,9 @@
 // no counter, no gap that is clipped.
 ghost use Prim.Native.Nat.{_+_, _*_, _≤_};
 ghost use mathlib.Core.Path.{_≡_};
-ghost use Rattle.rules.specs.Strokes.{last-tick};
-use crate::stair::Stair;
+ghost use Rattle.limits.specs.Values.{burst-of, period-of};
+ghost use Rattle.limits.specs.Strokes.{last-tick};
+use limits::Stair;
 
 pub mod counting;
 
@@ -14,7 +15,7 @@ pub mod counting;
 pub struct StairTally {
     stair: Stair,
     whole: u64,
-    ghost soon: { whole ≤ last-tick + stair .burst * stair .period },
+    ghost soon: { whole ≤ last-tick + burst-of stair * period-of stair },
 }
 
 impl StairTally {

@@ -2,10 +2,10 @@
 ghost use Prim.Native.Nat.{_≤_};
 ghost use lib.ListN.{take};
 ghost use mathlib.Core.Path.{_≡_};
-ghost use Rattle.rules.specs.Limits.{largest};
-ghost use Rattle.rules.specs.Strokes.{last-tick};
-use crate::table::Table;
+ghost use Rattle.limits.specs.Limits.{largest};
+ghost use Rattle.limits.specs.Strokes.{last-tick};
 use crate::table_tally::past::Past;
+use limits::Table;
 
 pub mod counting;
 mod past;

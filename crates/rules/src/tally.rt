@@ -5,7 +5,7 @@ ghost use mathlib.Core.Path.{_≡_};
 ghost use Rattle.rules.specs.Calls.{Next};
 ghost use Rattle.rules.specs.Layers.{Begins};
 ghost use Rattle.rules.specs.Rules.{Meaning, may, Early, Late, Reach};
-ghost use Rattle.rules.specs.Strokes.{longest};
+ghost use Rattle.limits.specs.Strokes.{longest};
 
 pub trait Tally: Copy {
     // the limit alone: its own last stroke, or none, and the lists of strokes that it lets pass next

@@ -5,32 +5,28 @@ ghost use mathlib.Core.List.{List};
 ghost use mathlib.Core.Path.{_≡_};
 ghost use Rattle.std.specs.Orderings.{Decides};
 ghost use Rattle.rules.specs.Layers.{layered, stair-own};
-ghost use Rattle.rules.specs.Limits.{Keeps-stair};
+ghost use Rattle.limits.specs.Limits.{Keeps-stair};
 ghost use Rattle.rules.specs.Lots.{First-lot, Second-lot};
 ghost use Rattle.rules.specs.Rules.{laid};
-ghost use Rattle.rules.specs.Values.{stair-of, stair-tally-own, stair-tally-span, layer-means, layer-reach};
+ghost use Rattle.limits.specs.Values.{burst-of, period-of, stair-of};
+ghost use Rattle.rules.specs.Values.{stair-tally-own, stair-tally-span, layer-means, layer-reach};
 use crate::layer::Layer;
 use crate::rule::Rule;
-use crate::stair::Stair;
 use crate::stair_tally::StairTally;
 use crate::tally::Tally;
-use crate::tick::LAST_TICK;
+use limits::LAST_TICK;
+use limits::Stair;
 
-impl Stair {
-    // Lays this stair on a rule, which may have been struck before.
-    pub fn on<R: Rule>(self, below: R) -> Layer<StairTally, R>
-        ensures laid { λ r. ⌜ layer-means stair-tally-own (R·Rule .meaning) r ≡ laid (stair-of self) (R·Rule .meaning below) ⌝ }
-        ensures windows { λ r. ⌜ ((ts : List ℕ) → Decides (layer-means stair-tally-own (R·Rule .meaning) r .allows ts) ((R·Rule .meaning below .allows ts ≡ true) × Keeps-stair (self .burst) (self .period) ts)) ⌝ }
-        ensures reach { λ r. ⌜ layer-reach stair-tally-span (R·Rule .reaches) r ≡ max (R·Rule .reaches below) (self .period) ⌝ }
-        ensures lots { λ _. ⌜ ((w : ℕ) → First-lot (layered (stair-own (self .burst) (self .period) w)) × Second-lot (layered (stair-own (self .burst) (self .period) w)) (self .period)) ⌝ }
-    {
-        Layer {
-            tally: StairTally {
-                stair: self,
-                whole: 0,
-            },
-            below,
-        }
+// Lays a stair on a rule, which may have been struck before.
+pub fn stair_on<R: Rule>(stair: Stair, below: R) -> Layer<StairTally, R>
+    ensures laid { λ r. ⌜ layer-means stair-tally-own (R·Rule .meaning) r ≡ laid (stair-of stair) (R·Rule .meaning below) ⌝ }
+    ensures windows { λ r. ⌜ ((ts : List ℕ) → Decides (layer-means stair-tally-own (R·Rule .meaning) r .allows ts) ((R·Rule .meaning below .allows ts ≡ true) × Keeps-stair (burst-of stair) (period-of stair) ts)) ⌝ }
+    ensures reach { λ r. ⌜ layer-reach stair-tally-span (R·Rule .reaches) r ≡ max (R·Rule .reaches below) (period-of stair) ⌝ }
+    ensures lots { λ _. ⌜ ((w : ℕ) → First-lot (layered (stair-own (burst-of stair) (period-of stair) w)) × Second-lot (layered (stair-own (burst-of stair) (period-of stair) w)) (period-of stair)) ⌝ }
+{
+    Layer {
+        tally: StairTally { stair, whole: 0 },
+        below,
     }
 }
 

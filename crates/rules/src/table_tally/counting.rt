@@ -5,33 +5,32 @@ ghost use mathlib.Core.List.{List};
 ghost use mathlib.Core.Path.{_≡_};
 ghost use Rattle.std.specs.Orderings.{Decides};
 ghost use Rattle.rules.specs.Layers.{layered, table-own};
-ghost use Rattle.rules.specs.Limits.{Keeps-table, largest, largest-sum};
+ghost use Rattle.limits.specs.Limits.{Keeps-table, largest, largest-sum};
 ghost use Rattle.rules.specs.Lots.{First-lot, Second-lot};
 ghost use Rattle.rules.specs.Rules.{laid};
-ghost use Rattle.rules.specs.Values.{given, table-of, table-tally-own, table-tally-span, layer-means, layer-reach};
+ghost use Rattle.limits.specs.Values.{given, table-of};
+ghost use Rattle.rules.specs.Values.{layer-means, layer-reach, table-tally-own, table-tally-span};
 use crate::layer::Layer;
 use crate::rule::Rule;
-use crate::table::Table;
 use crate::table_tally::TableTally;
 use crate::table_tally::past::Past;
 use crate::tally::Tally;
-use crate::tick::LAST_TICK;
+use limits::LAST_TICK;
+use limits::Table;
 
-impl Table {
-    // Lays this table on a rule, which may have been struck before.
-    pub fn on<R: Rule>(self, below: R) -> Layer<TableTally, R>
-        ensures laid { λ r. ⌜ layer-means table-tally-own (R·Rule .meaning) r ≡ laid (table-of self) (R·Rule .meaning below) ⌝ }
-        ensures distances { λ r. ⌜ ((ts : List ℕ) → Decides (layer-means table-tally-own (R·Rule .meaning) r .allows ts) ((R·Rule .meaning below .allows ts ≡ true) × Keeps-table (given self) ts)) ⌝ }
-        ensures reach { λ r. ⌜ layer-reach table-tally-span (R·Rule .reaches) r ≡ max (R·Rule .reaches below) (largest (given self)) ⌝ }
-        ensures lots { λ _. ⌜ ((past : List ℕ) → First-lot (layered (table-own (given self) past)) × Second-lot (layered (table-own (given self) past)) (largest (given self))) ⌝ }
-    {
-        Layer {
-            tally: TableTally {
-                table: self,
-                past: Past::new(),
-            },
-            below,
-        }
+// Lays a table on a rule, which may have been struck before.
+pub fn table_on<R: Rule>(table: Table, below: R) -> Layer<TableTally, R>
+    ensures laid { λ r. ⌜ layer-means table-tally-own (R·Rule .meaning) r ≡ laid (table-of table) (R·Rule .meaning below) ⌝ }
+    ensures distances { λ r. ⌜ ((ts : List ℕ) → Decides (layer-means table-tally-own (R·Rule .meaning) r .allows ts) ((R·Rule .meaning below .allows ts ≡ true) × Keeps-table (given table) ts)) ⌝ }
+    ensures reach { λ r. ⌜ layer-reach table-tally-span (R·Rule .reaches) r ≡ max (R·Rule .reaches below) (largest (given table)) ⌝ }
+    ensures lots { λ _. ⌜ ((past : List ℕ) → First-lot (layered (table-own (given table) past)) × Second-lot (layered (table-own (given table) past)) (largest (given table))) ⌝ }
+{
+    Layer {
+        tally: TableTally {
+            table,
+            past: Past::new(),
+        },
+        below,
     }
 }
 

@@ -4,7 +4,7 @@ ghost use lib.ListN.{length, take};
 ghost use mathlib.Core.List.{[], _∷_};
 ghost use mathlib.Core.Path.{_≡_};
 ghost use Rattle.rules.specs.Values.{remembered};
-use crate::table::MOST_DISTANCES;
+use limits::MOST_DISTANCES;
 
 #[derive(Clone, Copy)]
 pub struct Past {

@@ -4,8 +4,8 @@ use Prim.Native.Nat.{ℕ}
 use lib.ListN.{replicate}
 use Rattle.std.specs.declared.result.Result.{Result}
 use Rattle.std.specs.declared.result.Result.the-variants.{Ok}
-use Rattle.rules.specs.Limits.{stair}
-use Rattle.rules.specs.Refusals.{told}
+use Rattle.limits.specs.Limits.{stair}
+use Rattle.limits.specs.Refusals.{told}
 use Rattle.rules.specs.Rules.{pile}
 use Rattle.curves.specs.Laid.{three-stairs-means}
 use Rattle.curves.proofs.Written.{written-as}

@@ -4,9 +4,10 @@ use Prim.Native.Nat.{ℕ, _≤_}
 use native.Mathlib.Omega.{arith}
 use lib.ListN.{length, take, length-take}
 use Rattle.std.proofs.shelf.Ways.{tells}
-use Rattle.rules.specs.Limits.{largest, largest-sum}
-use Rattle.rules.specs.Strokes.{last-tick}
-use Rattle.rules.specs.Values.{given, remembered}
+use Rattle.limits.specs.Limits.{largest, largest-sum}
+use Rattle.limits.specs.Strokes.{last-tick}
+use Rattle.limits.specs.Values.{given}
+use Rattle.rules.specs.Values.{remembered}
 use Rattle.rules.proofs.TableSteps.{newest-largest, table-opens, table-struck}
 use Rattle.rules.proofs.table_tally.counting.TableTallyTally.after.Needs as need
 

@@ -4,9 +4,10 @@ use Prim.Native.Nat.{_+_, _≤_, suc, max}
 use native.Mathlib.Numerals.{add-one}
 use native.Mathlib.Omega.{arith}
 use lib.ListN.{getD, drop}
-use Rattle.rules.specs.Limits.{largest, largest-sum}
-use Rattle.rules.specs.Values.{given, remembered}
-use Rattle.rules.specs.Strokes.{last-tick, longest}
+use Rattle.limits.specs.Limits.{largest, largest-sum}
+use Rattle.limits.specs.Values.{given}
+use Rattle.rules.specs.Values.{remembered}
+use Rattle.limits.specs.Strokes.{last-tick, longest}
 use Rattle.rules.proofs.TableSteps.{largest-at, largest-sum-more, largest-sum-all, table-opens}
 use Rattle.rules.proofs.table_tally.counting.TableTallyTally.opens.Needs as need
 

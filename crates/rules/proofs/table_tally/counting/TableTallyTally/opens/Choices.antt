@@ -1,7 +1,7 @@
 use Prim.Native.Nat.{max}
 use mathlib.Core.Path.{_≡_}
 use lib.ListN.{drop}
-use Rattle.rules.specs.Limits.{largest-sum}
+use Rattle.limits.specs.Limits.{largest-sum}
 use Rattle.rules.proofs.table_tally.counting.TableTallyTally.opens.Given as given
 
 -- the largest sum so far, and that of what is left, are the largest of all

@@ -1,4 +1,5 @@
-use Rattle.rules.specs.Values.{given, remembered}
+use Rattle.limits.specs.Values.{given}
+use Rattle.rules.specs.Values.{remembered}
 use Rattle.rules.proofs.TableLaws.{table-begins, table-early, table-late, table-reach}
 use Rattle.rules.proofs.table_tally.counting.TableTallyTally.the-impl.Needs as need
 

@@ -1,0 +1,52 @@
+// Why a call was refused.
+ghost use mathlib.Core.Path.{_≡_};
+ghost use Rattle.std.specs.declared.option.Option.the-variants.{Some};
+ghost use Rattle.limits.specs.Refusals.{number, words};
+use std::error::Error;
+use std::fmt;
+
+#[derive(Clone, Copy, PartialEq, Eq, Debug)]
+pub enum Refusal {
+    // A tick past the last one.
+    PastLastTick,
+    // A burst, period, distance or jitter out of range, or a distance that falls.
+    OutOfRange,
+    // No room: a table has its sixteen distances.
+    Full,
+    // The rule does not allow the stroke.
+    NotAllowed,
+}
+
+impl Refusal {
+    pub fn number(self) -> u64
+        ensures { λ r. ⌜ r ≡ number self ⌝ }
+    {
+        match self {
+            Refusal::PastLastTick => 2,
+            Refusal::OutOfRange => 3,
+            Refusal::Full => 12,
+            Refusal::NotAllowed => 14,
+        }
+    }
+
+    pub fn words(self) -> &'static str
+        ensures { λ r. ⌜ now r ≡ words self ⌝ }
+    {
+        match self {
+            Refusal::PastLastTick => "the tick is past the last one",
+            Refusal::OutOfRange => "a number is out of range",
+            Refusal::Full => "there is no more room",
+            Refusal::NotAllowed => "the rule does not allow the stroke",
+        }
+    }
+}
+
+pub impl fmt::Display for Refusal as RefusalDisplay {
+    ghost shown = { λ r. Some (words r) };
+
+    fn fmt<W: fmt::Write>(&self, f: &mut fmt::Formatter<W>) -> fmt::Result {
+        f.write_str(self.words())
+    }
+}
+
+pub impl Error for Refusal as RefusalError {}

@@ -1,0 +1,22 @@
+// The audit: which record of a bell is the first that its rule refuses?
+ghost use mathlib.Core.Path.{_≡_};
+ghost use Rattle.records.specs.Audits.{ticks-of, Audited};
+use crate::record::Record;
+use rules::Rule;
+
+// Strikes the rule with the records of one bell, in their order, and answers the place, from 1 among that bell's
+// records, of the first one refused, or none. The rule is left struck by those before it.
+pub fn audit<T: Record, R: Rule>(records: &[T], bell: u64, rule: &mut R) -> Option<usize>
+    ensures audited { λ r. ⌜ Audited (R·Rule .meaning (now (rule .entry))) (ticks-of (T·Record .rings) (T·Record .falls) bell (now (records .entry))) r (R·Rule .meaning (now (rule .exit))) ⌝ }
+    ensures reach { λ _. ⌜ R·Rule .reaches (now (rule .exit)) ≡ R·Rule .reaches (now (rule .entry)) ⌝ }
+{
+    let mut others = 0;
+    for (i, record) in records.iter().enumerate() {
+        if record.bell() != bell {
+            others += 1;
+        } else if rule.strike(record.tick()).is_err() {
+            return Some(i + 1 - others);
+        }
+    }
+    None
+}
