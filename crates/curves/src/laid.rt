@@ -44,9 +44,9 @@ pub(super) fn nine_dues() -> Result<[u64; 9], Refusal>
     ensures { λ r. ⌜ told r ≡ Ok (0 ∷ 1 ∷ 2 ∷ 4 ∷ 8 ∷ 12 ∷ 16 ∷ 24 ∷ 32 ∷ []) ⌝ }
 {
     let mut rule = three_stairs()?;
-    let mut due = [0; 9];
-    burst(&mut rule, 0, &mut due)?;
-    Ok(due)
+    let mut nine = [0; 9];
+    burst(&mut rule, 0, &mut nine)?;
+    Ok(nine)
 }
 
 // The table 10, 30.
@@ -64,9 +64,9 @@ pub(super) fn five_dues() -> Result<[u64; 5], Refusal>
     ensures { λ r. ⌜ told r ≡ Ok (0 ∷ 10 ∷ 30 ∷ 40 ∷ 60 ∷ []) ⌝ }
 {
     let mut rule = two_distances()?;
-    let mut due = [0; 5];
-    burst(&mut rule, 0, &mut due)?;
-    Ok(due)
+    let mut five = [0; 5];
+    burst(&mut rule, 0, &mut five)?;
+    Ok(five)
 }
 
 // The two stairs of a chime drum with a stroke every 100 ticks, each up to 300 late, at least 20 apart.
@@ -83,7 +83,7 @@ pub(super) fn ten_dues() -> Result<[u64; 10], Refusal>
     ensures { λ r. ⌜ told r ≡ Ok (0 ∷ 20 ∷ 40 ∷ 60 ∷ 100 ∷ 200 ∷ 300 ∷ 400 ∷ 500 ∷ 600 ∷ []) ⌝ }
 {
     let mut rule = chime_drum()?;
-    let mut due = [0; 10];
-    burst(&mut rule, 0, &mut due)?;
-    Ok(due)
+    let mut ten = [0; 10];
+    burst(&mut rule, 0, &mut ten)?;
+    Ok(ten)
 }
