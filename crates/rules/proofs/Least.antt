@@ -7,12 +7,18 @@ use lib.Dec.{leb, ltb}
 use Rattle.std.specs.Options.{Cases}
 use Rattle.std.specs.declared.option.Option.{Option}
 use Rattle.std.specs.declared.option.Option.the-variants.{Some, None}
+use Rattle.std.specs.Results.{Cases as ByOk}
+use Rattle.std.specs.declared.result.Result.{Result}
+use Rattle.std.specs.declared.result.Result.the-variants.{Ok, Err}
 use Rattle.std.proofs.shelf.Tests.{both-ways, cases-order}
 use Rattle.std.proofs.shelf.Ways.{tells}
 use mathlib.Core.Logic.{inl, inr}
 use Rattle.limits.specs.Strokes.{last-tick}
 use Rattle.rules.specs.Rules.{Meaning, may, Least, first-of, earliest}
 use Rattle.rules.specs.Layers.{layered}
+use Rattle.rules.specs.Calls.{earliest-from}
+use Rattle.limits.specs.Refusals.{told}
+use Rattle.limits.specs.declared.refusal.Refusal.{Refusal}
 
 -- the first of the k numbers from t on that passes, or none of them does
 abbrev First : (ℕ → Bool) → ℕ → ℕ → Option ℕ → Type 0
@@ -81,3 +87,8 @@ earliest-open x t m b l = least-earliest m t (Some (max t x)) (
 -- or none, if x is past the last tick
 pub earliest-shut : (x t : ℕ) (m : Meaning) → ((u : ℕ) → may m u ≡ leb x u) → last-tick < max t x → t ≤ last-tick → earliest m t ≡ None
 earliest-shut x t m b l tl = least-earliest m t None (λ u tu ul. let e = b u in grind (arith, tells))
+
+-- what an answer says
+pub answer-least : (m : Meaning) (t : ℕ) (r : Result (Option ℕ) Refusal) → told r ≡ earliest-from m t → ByOk r (Least m t) (λ _. last-tick < t)
+answer-least m t (Ok d) e = let same : earliest m t ≡ d = grind (arith, tells) in rw (← same) (earliest-is m t)
+answer-least m t (Err x) e = grind (arith, tells)

@@ -1,11 +1,11 @@
 // What every rule can be asked, and what it owes.
-ghost use Prim.Native.Nat.{ℕ, _≤_};
+ghost use Prim.Native.Nat.{ℕ, _≤_, _<_};
 ghost use mathlib.Core.Path.{_≡_};
 ghost use Rattle.std.specs.Results.{Cases as ByOk};
 ghost use Rattle.rules.specs.Calls.{earliest-from, strike-at};
 ghost use Rattle.limits.specs.Refusals.{told};
-ghost use Rattle.rules.specs.Rules.{Meaning, may, struck, Order, Early, Late, Reach};
-ghost use Rattle.limits.specs.Strokes.{longest};
+ghost use Rattle.rules.specs.Rules.{Meaning, may, struck, Least, Order, Early, Late, Reach};
+ghost use Rattle.limits.specs.Strokes.{last-tick, longest};
 use limits::Refusal;
 
 pub trait Rule {
@@ -31,7 +31,8 @@ pub trait Rule {
 
     // The least tick at or after t that may be struck, up to the last tick, or none.
     fn earliest(&self, t: u64) -> Result<Option<u64>, Refusal>
-        ensures { λ r. ⌜ told r ≡ earliest-from (meaning (now (self .entry))) t ⌝ };
+        ensures answer { λ r. ⌜ told r ≡ earliest-from (meaning (now (self .entry))) t ⌝ }
+        ensures least { λ r. ⌜ ByOk r (Least (meaning (now (self .entry))) t) (λ _. last-tick < t) ⌝ };
 
     // Charges a stroke at t. A refusal leaves the rule as it was.
     fn strike(&mut self, t: u64) -> Result<(), Refusal>

@@ -18,7 +18,7 @@ returns-then-asked-gt-LAST-TICK g c = record {
 pub returns-in-rest : need.returns-in-rest
 returns-in-rest g c =
     let m = g .R·Rule .meaning (c .loop-i .rule) in
-    let answer = c .in-Continue-tick .ensures tt in
+    let answer = c .in-Continue-tick .ensures tt .answer in
     let none : earliest m (c .args .asked) ≡ None = let is = c .in-rest .is in grind (arith, tells) in
     record {
       burst = bursting-shut (g .R·Rule .meaning (c .args .rule .now)) (c .args .asked) (c .args .due .now) (c .loop-i .i) m (c .loop-i .due) (omega arith) (omega arith) (c .loop-i .inv .0) none;
@@ -30,7 +30,7 @@ returns-in-rest g c =
 pub returns-in-Break-strike : need.returns-in-Break-strike
 returns-in-Break-strike g c =
     let m = g .R·Rule .meaning (c .loop-i .rule) in
-    let answer = c .in-Continue-tick .ensures tt in
+    let answer = c .in-Continue-tick .ensures tt .answer in
     let some : earliest m (c .args .asked) ≡ Some (c .in-Some .tick) = let is = c .in-Some .is in grind (arith, tells) in
     let can = earliest-strikes m (c .args .asked) (c .in-Some .tick) some in
     let refused = c .in-Break-strike .ensures tt .answer in
@@ -40,7 +40,7 @@ returns-in-Break-strike g c =
 pub loop-i-again : need.loop-i-again
 loop-i-again g c =
     let m = g .R·Rule .meaning (c .loop-i .rule) in
-    let answer = c .in-Continue-tick .ensures tt in
+    let answer = c .in-Continue-tick .ensures tt .answer in
     let some : earliest m (c .args .asked) ≡ Some (c .in-Some .tick) = let is = c .in-Some .is in grind (arith, tells) in
     let struck = c .in-Continue-strike .ensures tt in (
       bursting-more (g .R·Rule .meaning (c .args .rule .now)) (c .args .asked) (c .args .due .now) (c .loop-i .i) m (c .loop-i .due) (c .in-Some .tick) (g .R·Rule .meaning (c .strike .last .self)) (omega arith) (c .loop-i .inv .0) some (struck .left),
