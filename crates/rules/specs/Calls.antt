@@ -1,15 +1,12 @@
--- What the calls on a rule answer, refusals by their numbers, and what a limit remembers after a stroke.
-use mathlib.Core.Path.{_≡_}
-use mathlib.Core.Bool.{Bool, true, false, _&&_, cond}
+-- What the calls on a rule answer: refusals by their numbers.
+use mathlib.Core.Bool.{Bool, _&&_, cond}
 use Prim.Native.Nat.{ℕ}
 use lib.Dec.{leb, ltb}
-use Rattle.std.specs.Options.{Cases}
 use Rattle.std.specs.declared.option.Option.{Option}
 use Rattle.std.specs.declared.result.Result.{Result}
 use Rattle.std.specs.declared.result.Result.the-variants.{Ok, Err}
 use Rattle.limits.specs.Strokes.{last-tick}
-use Rattle.rules.specs.Rules.{Meaning, may, struck, earliest}
-use Rattle.rules.specs.Layers.{layered}
+use Rattle.rules.specs.Rules.{Meaning, may, earliest}
 
 -- the earliest stroke from t on: a tick past the last one is refused by 2
 abbrev pub earliest-from : Meaning → ℕ → Result (Option ℕ) ℕ
@@ -22,7 +19,3 @@ strike-at m t = cond (ltb last-tick t) (Err 2) (cond (may m t) (Ok tt) (Err 14))
 -- a tick that may be struck
 abbrev pub can-strike : Meaning → ℕ → Bool
 can-strike m t = leb t last-tick && may m t
-
--- a limit after a stroke at t, or none if it can not be struck there: laid on any rule that was struck at t, it is the whole struck at t
-abbrev pub Next : {T : Type 0} → (T → Meaning) → (T → ℕ) → T → ℕ → Option T → Type 0
-Next own span s t r = Cases r (can-strike (own s) t ≡ false) (λ next. (can-strike (own s) t ≡ true) × ((m : Meaning) → layered (own next) (struck t m) ≡ struck t (layered (own s) m)) × (span next ≡ span s))

@@ -1,13 +1,15 @@
 -- Limits as a rule keeps them, stroke by stroke: what each remembers, and its test of the next strokes.
 use mathlib.Core.Path.{_≡_}
-use mathlib.Core.Bool.{Bool, true, _&&_, cond}
+use mathlib.Core.Bool.{Bool, true, false, _&&_, cond}
 use mathlib.Core.List.{List, [], _∷_, _++_}
 use Prim.Native.Nat.{ℕ, _+_, _-_, _*_, max}
 use lib.Dec.{leb, eqb}
+use Rattle.std.specs.Options.{Cases}
 use Rattle.std.specs.declared.option.Option.{Option}
 use Rattle.std.specs.declared.option.Option.the-variants.{Some, None}
 use Rattle.limits.specs.Limits.{largest}
-use Rattle.rules.specs.Rules.{Meaning}
+use Rattle.rules.specs.Rules.{Meaning, struck}
+use Rattle.rules.specs.Calls.{can-strike}
 
 -- the later of two ticks, either of which may be missing
 abbrev pub later : Option ℕ → Option ℕ → Option ℕ
@@ -23,6 +25,10 @@ layered own m = record { last = later (own .last) (m .last); allows = λ ts. m .
 pub record Begins (own : Meaning) : Type 0 where
   pub empty : own .allows [] ≡ true
   pub beginning : (ts us : List ℕ) → own .allows (ts ++ us) ≡ true → own .allows ts ≡ true
+
+-- a limit after a stroke at t, or none if it can not be struck there: laid on any rule that was struck at t, it is the whole struck at t
+abbrev pub Next : {T : Type 0} → (T → Meaning) → (T → ℕ) → T → ℕ → Option T → Type 0
+Next own span s t r = Cases r (can-strike (own s) t ≡ false) (λ next. (can-strike (own s) t ≡ true) × ((m : Meaning) → layered (own next) (struck t m) ≡ struck t (layered (own s) m)) × (span next ≡ span s))
 
 -- a stair of burst n and period p remembers the tick w at which its burst is whole again, 0 at first
 abbrev pub afford : ℕ → ℕ → ℕ → List ℕ → Bool

@@ -1,6 +1,6 @@
 pub mod Rules
-pub mod Layers
 pub mod Calls
+pub mod Layers
 pub mod Lots
 pub mod Bursts
 pub mod Examples

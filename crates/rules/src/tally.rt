@@ -2,8 +2,7 @@
 ghost use Prim.Native.Nat.{ℕ, _≤_};
 ghost use lib.Dec.{leb};
 ghost use mathlib.Core.Path.{_≡_};
-ghost use Rattle.rules.specs.Calls.{Next};
-ghost use Rattle.rules.specs.Layers.{Begins};
+ghost use Rattle.rules.specs.Layers.{Begins, Next};
 ghost use Rattle.rules.specs.Rules.{Meaning, may, Early, Late, Reach};
 ghost use Rattle.limits.specs.Strokes.{longest};
 
