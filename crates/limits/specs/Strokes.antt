@@ -3,8 +3,6 @@ use mathlib.Core.Bool.{Bool, true, _&&_}
 use mathlib.Core.List.{List, [], _∷_}
 use Prim.Native.Nat.{ℕ, _≤_}
 use lib.Dec.{leb}
-use Rattle.std.specs.declared.option.Option.{Option}
-use Rattle.std.specs.declared.option.Option.the-variants.{Some, None}
 
 -- a tick is one millisecond, from 0 to this one; the lists of strokes below may also hold numbers past it
 abbrev pub last-tick : ℕ
@@ -29,8 +27,3 @@ No-later [] [] = Unit {0}
 No-later [] (u ∷ us) = ⊥
 No-later (t ∷ ts) [] = ⊥
 No-later (t ∷ ts) (u ∷ us) = (t ≤ u) × No-later ts us
-
--- no stroke, or one that is no later than the last tick
-abbrev pub in-time : Option ℕ → Bool
-in-time None = true
-in-time (Some t) = leb t last-tick

@@ -18,6 +18,7 @@ pub enum Refusal {
 }
 
 impl Refusal {
+    // The number by which the refusal is told.
     pub fn number(self) -> u64
         ensures { λ r. ⌜ r ≡ number self ⌝ }
     {
@@ -29,6 +30,7 @@ impl Refusal {
         }
     }
 
+    // The refusal in words, as it is printed.
     pub fn words(self) -> &'static str
         ensures { λ r. ⌜ now r ≡ words self ⌝ }
     {

@@ -1,4 +1,4 @@
-// A limit on any rule.
+// A limit on any rule. Any limit, with whatever strokes it remembers, and any rule make a rule.
 ghost use Rattle.rules.specs.Values.{layer-means, layer-reach};
 use crate::rule::Rule;
 use crate::tally::Tally;

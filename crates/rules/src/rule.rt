@@ -12,7 +12,7 @@ pub trait Rule {
     // its last stroke, or none, and the lists of strokes that it allows next
     ghost meaning: { Self → Meaning };
 
-    // how many ticks after a stroke it allows another one at the latest
+    // how many ticks after a stroke it allows another one at the latest; no call changes it
     ghost reaches: { Self → ℕ };
 
     law order: { (r : Self) → Order (meaning r) };
@@ -40,6 +40,7 @@ pub trait Rule {
         ensures left { λ r. ⌜ ByOk r (λ _. meaning (now (self .exit)) ≡ struck t (meaning (now (self .entry)))) (λ _. now (self .exit) ≡ now (self .entry)) ⌝ }
         ensures same_reach { λ _. ⌜ reaches (now (self .exit)) ≡ reaches (now (self .entry)) ⌝ };
 
+    // No later than this many ticks after its last stroke the rule allows another one.
     fn reach(&self) -> u64
         ensures { λ r. ⌜ r ≡ reaches (now (self .entry)) ⌝ };
 }

@@ -31,6 +31,7 @@ pub trait Tally: Copy {
     fn after(&self, t: u64) -> Option<Self>
         ensures { λ r. ⌜ Next own span (now (self .entry)) t r ⌝ };
 
+    // How many ticks after a stroke the limit lets another one pass at the latest.
     fn span(&self) -> u64
         ensures { λ r. ⌜ r ≡ span (now (self .entry)) ⌝ };
 }

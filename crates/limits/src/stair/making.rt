@@ -2,7 +2,7 @@
 ghost use mathlib.Core.Path.{_≡_};
 ghost use Rattle.limits.specs.Making.{stair-made};
 ghost use Rattle.limits.specs.Refusals.{told-by};
-ghost use Rattle.limits.specs.Values.{stair-of};
+ghost use Rattle.limits.specs.Values.{burst-of, period-of, stair-of};
 use crate::refusal::Refusal;
 use crate::stair::Stair;
 use crate::tick::LONGEST;
@@ -21,14 +21,16 @@ impl Stair {
         Ok(Stair { burst, period })
     }
 
+    // How many strokes may come at once.
     pub fn burst(&self) -> u64
-        ensures { λ r. ⌜ r ≡ now (self .entry) .burst ⌝ }
+        ensures { λ r. ⌜ r ≡ burst-of (now (self .entry)) ⌝ }
     {
         self.burst
     }
 
+    // For how many ticks there is one stroke more.
     pub fn period(&self) -> u64
-        ensures { λ r. ⌜ r ≡ now (self .entry) .period ⌝ }
+        ensures { λ r. ⌜ r ≡ period-of (now (self .entry)) ⌝ }
     {
         self.period
     }

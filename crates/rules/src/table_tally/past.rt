@@ -13,7 +13,7 @@ pub struct Past {
 }
 
 impl Past {
-    pub fn new() -> Past
+    pub(super) fn new() -> Past
         ensures count { λ r. ⌜ r .count ≡ 0 ⌝ }
         ensures strokes { λ r. ⌜ remembered r ≡ [] ⌝ }
     {
@@ -23,7 +23,7 @@ impl Past {
         }
     }
 
-    pub fn strokes(&self) -> &[u64]
+    pub(super) fn strokes(&self) -> &[u64]
         requires { ⌜ now self .count ≤ 16 ⌝ }
         ensures { λ r. ⌜ now r ≡ remembered (now (self .entry)) ⌝ }
     {
@@ -31,7 +31,7 @@ impl Past {
     }
 
     // Remembers one more stroke, and no more than `room` in all.
-    pub fn remember(&mut self, t: u64, room: usize)
+    pub(super) fn remember(&mut self, t: u64, room: usize)
         requires { ⌜ now self .count ≤ 16 ⌝ ∗ ⌜ room ≤ 16 ⌝ }
         ensures count { λ _. ⌜ now (self .exit) .count ≤ room ⌝ }
         ensures strokes { λ _. ⌜ remembered (now (self .exit)) ≡ take room (t ∷ remembered (now (self .entry))) ⌝ }
