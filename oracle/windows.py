@@ -17,7 +17,7 @@ def keeps_stair(burst, period, strokes):
 
 
 def distance(given, n):
-    """d(n): the n-th given distance, and past those the largest of d(w) + d(n - w) for w from 1 to their number."""
+    """The least distance to the n-th stroke after one: given, or the best sum of a given and a shorter distance."""
     if not given:
         return 0
     table = [0] + list(given)
@@ -27,7 +27,7 @@ def distance(given, n):
 
 
 def keeps_table(given, strokes):
-    """Each stroke lies at least d(n) after the n-th before it."""
+    """Any two strokes are as far apart as the table wants."""
     return all(
         strokes[i + n] - strokes[i] >= distance(given, n)
         for i in range(len(strokes))

@@ -7,7 +7,7 @@ use lib.Dec.{leb}
 use lib.ListN.{length, getD}
 use Rattle.limits.specs.Strokes.{never-falls}
 
--- how many strokes of the list lie from a to b, both included
+-- how many strokes of the list are in the window that begins with tick a and ends with tick b; both ticks count
 abbrev pub within : ℕ → ℕ → List ℕ → ℕ
 within a b [] = 0
 within a b (t ∷ ts) = cond (leb a t && leb t b) 1 0 + within a b ts
@@ -16,13 +16,14 @@ within a b (t ∷ ts) = cond (leb a t && leb t b) 1 0 + within a b ts
 abbrev pub Keeps-stair : ℕ → ℕ → List ℕ → Type 0
 Keeps-stair n p ts = (never-falls ts ≡ true) × ((a b : ℕ) → a ≤ b → within a b ts ≤ n + (b - a) / p)
 
--- the largest of x(w) + d(n - w) for w from 1, where the lists are x(1), x(2), .. and d(n - 1), d(n - 2), ..
+-- of two lists x and y, the largest sum of a number of x and the one at the same place of y, as far as both go
 abbrev pub largest-sum : List ℕ → List ℕ → ℕ
 largest-sum [] ds = 0
 largest-sum (x ∷ xs) [] = 0
 largest-sum (x ∷ xs) (d ∷ ds) = max (x + d) (largest-sum xs ds)
 
--- the distances d(l + k), .., d(2), d(1): the l given ones, and k more in front of them, each the largest of d(w) + d(n - w) for w from 1 to l
+-- the given distances backwards, with k more in front of them: each is the best that a given one and a shorter one come to.
+-- The list so far is backwards, so its first matches the nearest given distance, its second the next, and so on
 abbrev pub extended : List ℕ → ℕ → List ℕ
 extended given zero = reverse given
 extended given (suc k) = largest-sum given (extended given k) ∷ extended given k
@@ -31,7 +32,7 @@ extended given (suc k) = largest-sum given (extended given k) ∷ extended given
 abbrev pub distance : List ℕ → ℕ → ℕ
 distance given n = getD (reverse (extended given (n - length given))) (n - 1) 0
 
--- a table: the list never falls, and each stroke lies at least d(n) ticks after the n-th stroke before it, for every n from 1
+-- a table: the list never falls, and from any stroke to the n-th one after it there are at least d(n) ticks, whatever n is
 abbrev pub Keeps-table : List ℕ → List ℕ → Type 0
 Keeps-table given ts = (never-falls ts ≡ true) × ((i n : ℕ) → 1 ≤ n → i + n < length ts → getD ts i 0 + distance given n ≤ getD ts (i + n) 0)
 

@@ -9,11 +9,11 @@ use Rattle.std.specs.declared.result.Result.the-variants.{Ok, Err}
 use Rattle.limits.specs.Strokes.{longest, never-falls}
 use Rattle.limits.specs.Limits.{Limit, stair}
 
--- a burst from 1 to 255 and a period from 1 to the longest
+-- the bursts and periods that a stair can have
 abbrev pub in-range : ℕ → ℕ → Bool
 in-range n p = (leb 1 n && leb n 255) && (leb 1 p && leb p longest)
 
--- a stair out of range is refused by 3
+-- making a stair: any other numbers are refused by 3
 abbrev pub stair-made : ℕ → ℕ → Result Limit ℕ
 stair-made n p = cond (in-range n p) (Ok (stair n p)) (Err 3)
 

@@ -18,7 +18,7 @@ abbrev pub words : Refusal → List ℕ
 words PastLastTick = codes "the tick is past the last one"
 words OutOfRange = codes "a number is out of range"
 words Full = codes "there is no more room"
-words NotAllowed = codes "the rule does not allow the stroke"
+words NotAllowed = codes "the rule blocks the stroke"
 
 -- an answer, with what it holds told by f, and a refusal by its number
 abbrev pub told-by : {T U : Type 0} → (T → U) → Result T Refusal → Result U ℕ

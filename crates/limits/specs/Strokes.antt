@@ -21,7 +21,7 @@ rises-from t (u ∷ us) = leb t u && rises-from u us
 abbrev pub never-falls : List ℕ → Bool
 never-falls ts = rises-from 0 ts
 
--- two lists of one length, no stroke of the first later than its match in the second
+-- two lists of one length, the first never behind the second, stroke for stroke
 abbrev pub No-later : List ℕ → List ℕ → Type 0
 No-later [] [] = Unit {0}
 No-later [] (u ∷ us) = ⊥

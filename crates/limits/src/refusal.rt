@@ -9,11 +9,11 @@ use std::fmt;
 pub enum Refusal {
     // A tick past the last one.
     PastLastTick,
-    // A burst, period, distance or jitter out of range, or a distance that falls.
+    // One of the numbers of a limit is not in its range, or a table's distances get smaller.
     OutOfRange,
     // No room: a table has its sixteen distances.
     Full,
-    // The rule does not allow the stroke.
+    // A rule blocks the stroke.
     NotAllowed,
 }
 
@@ -38,7 +38,7 @@ impl Refusal {
             Refusal::PastLastTick => "the tick is past the last one",
             Refusal::OutOfRange => "a number is out of range",
             Refusal::Full => "there is no more room",
-            Refusal::NotAllowed => "the rule does not allow the stroke",
+            Refusal::NotAllowed => "the rule blocks the stroke",
         }
     }
 }

@@ -4,8 +4,8 @@ ghost use Rattle.records.specs.Audits.{ticks-of, Audited};
 use crate::record::Record;
 use rules::Rule;
 
-// Strikes the rule with the records of one bell, in their order, and answers the place, from 1 among that bell's
-// records, of the first one refused, or none. The rule is left struck by those before it.
+// Charges one bell's records to the rule as they come. Where the rule turns one away, the answer says which of that
+// bell's records it was, the first being 1, and the rule has been charged with those in front of it.
 pub fn audit<T: Record, R: Rule>(records: &[T], bell: u64, rule: &mut R) -> Option<usize>
     ensures audited { λ r. ⌜ Audited (R·Rule .meaning (now (rule .entry))) (ticks-of (T·Record .rings) (T·Record .falls) bell (now (records .entry))) r (R·Rule .meaning (now (rule .exit))) ⌝ }
     ensures reach { λ _. ⌜ R·Rule .reaches (now (rule .exit)) ≡ R·Rule .reaches (now (rule .entry)) ⌝ }

@@ -1,4 +1,4 @@
-// What an audit reads of a record: a bell and a tick. Records lie in the caller's memory.
+// What an audit reads of a record: a bell and a tick. The records themselves belong to the caller.
 ghost use Prim.Native.Nat.{ℕ};
 ghost use mathlib.Core.Path.{_≡_};
 

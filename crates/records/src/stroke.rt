@@ -1,4 +1,4 @@
-// The record of a stroke: its bell, the tick asked and the tick due. To an audit it tells the tick due.
+// The record of a stroke: its bell, when it was asked for, and when it was due. An audit reads the latter.
 use crate::record::Record;
 
 #[derive(Clone, Copy)]

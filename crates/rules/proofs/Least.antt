@@ -84,7 +84,7 @@ earliest-open x t m b l = least-earliest m t (Some (max t x)) (
   λ u tu ud. let e = b u in grind (arith, tells),
 )
 
--- or none, if x is past the last tick
+-- or none, if x lies past the last tick
 pub earliest-shut : (x t : ℕ) (m : Meaning) → ((u : ℕ) → may m u ≡ leb x u) → last-tick < max t x → t ≤ last-tick → earliest m t ≡ None
 earliest-shut x t m b l tl = least-earliest m t None (λ u tu ul. let e = b u in grind (arith, tells))
 

@@ -21,7 +21,7 @@ abbrev pub struck-by : List ℕ → Meaning → Meaning
 struck-by [] m = m
 struck-by (t ∷ ts) m = struck-by ts (struck t m)
 
--- a burst asked for at tick a, with the due ticks ds: a tick past the last one is refused by 2, else their number is answered
+-- a burst asked for at tick a, with the due ticks ds: refused by 2 past the last tick, and else answered by their number
 abbrev pub burst-answer : ℕ → List ℕ → Result ℕ ℕ
 burst-answer a ds = cond (ltb last-tick a) (Err 2) (Ok (length ds))
 

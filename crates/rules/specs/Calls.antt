@@ -8,7 +8,7 @@ use Rattle.std.specs.declared.result.Result.the-variants.{Ok, Err}
 use Rattle.limits.specs.Strokes.{last-tick}
 use Rattle.rules.specs.Rules.{Meaning, may, earliest}
 
--- the earliest stroke from t on: a tick past the last one is refused by 2
+-- the earliest stroke from t on: refused by 2 past the last tick
 abbrev pub earliest-from : Meaning → ℕ → Result (Option ℕ) ℕ
 earliest-from m t = cond (ltb last-tick t) (Err 2) (Ok (earliest m t))
 

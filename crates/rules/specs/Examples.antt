@@ -15,9 +15,9 @@ abbrev pub stair-on-table : Meaning
 stair-on-table = pile (stair 2 100 ∷ table (50 ∷ []) ∷ [])
 
 pub record Worked-examples : Type 0 where
-  -- the stairs (1, 1), (3, 4) and (5, 8) together: nine requests at 0
+  -- the stairs (1, 1), (3, 4) and (5, 8) together: nine strokes asked for at 0
   pub three-stairs : dues (pile (stair 1 1 ∷ stair 3 4 ∷ stair 5 8 ∷ [])) (replicate 9 0) ≡ 0 ∷ 1 ∷ 2 ∷ 4 ∷ 8 ∷ 12 ∷ 16 ∷ 24 ∷ 32 ∷ []
-  -- the table 10, 30: five requests at 0
+  -- the table 10, 30: five strokes asked for at 0
   pub two-distances : dues (pile (table (10 ∷ 30 ∷ []) ∷ [])) (replicate 5 0) ≡ 0 ∷ 10 ∷ 30 ∷ 40 ∷ 60 ∷ []
   -- the stair (1, 10): a window from 0 to 10 has room for a second stroke, one from 0 to 9 has not
   pub tenth : Keeps-stair 1 10 (0 ∷ 10 ∷ [])
@@ -35,5 +35,5 @@ pub record Worked-examples : Type 0 where
   pub both-third : may (struck 50 (struck 0 stair-on-table)) 100 ≡ true
   -- period 100, jitter 300 and distance 20
   pub jitter : jittered 100 300 20 ≡ Ok (stair 4 100, stair 1 20)
-  -- the empty list keeps every stair
+  -- no stroke at all keeps any stair
   pub none-keeps : (n p : ℕ) → Keeps-stair n p []

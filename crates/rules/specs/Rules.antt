@@ -9,7 +9,7 @@ use Rattle.std.specs.declared.option.Option.the-variants.{Some, None}
 use Rattle.limits.specs.Strokes.{last-tick, rises-from, never-falls, No-later}
 use Rattle.limits.specs.Limits.{Limit, keeps}
 
--- a rule means two things: its last stroke, or none, and the set of lists of strokes that it allows next
+-- what there is to know about a rule: when it was last struck, if ever, and which lists of further strokes it lets through
 pub record Meaning : Type 0 where
   pub last : Option ℕ
   pub allows : List ℕ → Bool
@@ -35,7 +35,7 @@ first-of ok t (suc k) = elim (ok t) [ true ↦ Some t | false ↦ first-of ok (s
 abbrev pub earliest : Meaning → ℕ → Option ℕ
 earliest m t = first-of (may m) t (suc last-tick - t)
 
--- allowed lists never fall, the empty list is allowed, and so is every beginning of an allowed list
+-- what is let through never falls; the empty list is, and with a list its first few strokes are
 pub record Order (m : Meaning) : Type 0 where
   pub rising : (ts : List ℕ) → m .allows ts ≡ true → never-falls ts ≡ true
   pub empty : m .allows [] ≡ true
@@ -55,7 +55,7 @@ pub record Reach (m : Meaning) (reach : ℕ) : Type 0 where
   pub again : (u : ℕ) → m .last ≡ Some u → may m (u + reach) ≡ true
   pub next : (ts : List ℕ) (u : ℕ) → m .allows (ts ++ (u ∷ [])) ≡ true → m .allows (ts ++ (u ∷ (u + reach) ∷ [])) ≡ true
 
--- the open rule allows the lists that never fall and do not begin before its last stroke
+-- the open rule asks only that time does not run backwards, from its last stroke on
 abbrev pub rises-after : Option ℕ → List ℕ → Bool
 rises-after None ts = never-falls ts
 rises-after (Some u) ts = rises-from u ts

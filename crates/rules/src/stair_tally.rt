@@ -1,8 +1,8 @@
 // What a stair remembers: one number, the tick at which its burst is whole again.
 //
-// With burst N and period p, strokes t(1) .. t(k) leave w(k), where w(0) = 0 and w(k) = max(t(k), w(k - 1)) + p.
-// The next stroke may come at t exactly if w(k) + p <= t + N * p. So one number stands for the whole past: no timer,
-// no counter, no gap that is clipped.
+// The number w starts at 0, and a stroke at t turns it into max(t, w) + p, where p is the period. With the burst N, tick t
+// is open to the next stroke when w + p <= t + N * p. That is all the past there is: nothing runs out, nothing is reset,
+// and a gap of years counts for as long as it was.
 ghost use Prim.Native.Nat.{_+_, _*_, _≤_};
 ghost use mathlib.Core.Path.{_≡_};
 ghost use Rattle.limits.specs.Values.{burst-of, period-of};
