@@ -32,6 +32,14 @@ extended given (suc k) = largest-sum given (extended given k) ∷ extended given
 abbrev pub distance : List ℕ → ℕ → ℕ
 distance given n = getD (reverse (extended given (n - length given))) (n - 1) 0
 
+-- what these numbers are, for a reader: d(n) for each given n, and for each n past those the largest of d(w) + d(n - w), where w is a given place.
+-- No such sum is larger, and one of them is as large
+pub record Distances (given : List ℕ) (d : ℕ → ℕ) : Type 0 where
+  pub near : (n : ℕ) → 1 ≤ n → n ≤ length given → d n ≡ getD given (n - 1) 0
+  pub no-larger : (n w : ℕ) → length given < n → 1 ≤ w → w ≤ length given → d w + d (n - w) ≤ d n
+  pub as-large : (n : ℕ) → length given < n → 1 ≤ length given → (w : ℕ) × (1 ≤ w) × (w ≤ length given) × (d n ≡ d w + d (n - w))
+  pub none : (n : ℕ) → length given ≡ 0 → d n ≡ 0
+
 -- a table: the list never falls, and from any stroke to the n-th one after it there are at least d(n) ticks, whatever n is
 abbrev pub Keeps-table : List ℕ → List ℕ → Type 0
 Keeps-table given ts = (never-falls ts ≡ true) × ((i n : ℕ) → 1 ≤ n → i + n < length ts → getD ts i 0 + distance given n ≤ getD ts (i + n) 0)

@@ -9,6 +9,7 @@ mod Walks
 mod StairLaws
 mod StairSteps
 mod Tables
+mod TableDistances
 mod TableWalks
 mod TableLaws
 mod TableSteps

@@ -1,49 +1,19 @@
 -- On rising lists the walk of a table, from its start, is the table's test: the given distances are enough.
 use mathlib.Core.Path.{_≡_, refl, sym, ap, _∙_}
 use mathlib.Core.Bool.{Bool, true, _&&_}
-use mathlib.Core.List.{List, [], _∷_, reverse}
+use mathlib.Core.List.{List, [], _∷_}
 use Prim.Native.Nat.{ℕ, zero, suc, _+_, _-_, _≤_, _<_}
 use native.Mathlib.Omega.{arith}
 use lib.Dec.{leb}
-use lib.ListN.{length, getD, length-reverse}
+use lib.ListN.{length, getD}
 use mathlib.Core.Logic.{⊎-elim}
-use Rattle.std.proofs.shelf.Lists.{getD-reverse, reverse-reverse}
 use Rattle.std.proofs.shelf.Tests.{cases-lt}
 use Rattle.std.proofs.shelf.Ways.{tells, same-from-decides}
 use Rattle.limits.specs.Strokes.{rises-from, never-falls}
 use Rattle.limits.specs.Limits.{largest-sum, extended, distance, far-enough}
 use Rattle.rules.specs.Layers.{spaced, keep-apart}
+use Rattle.rules.proofs.TableDistances.{distance-given, distance-more, extended-at}
 use Rattle.rules.proofs.Tables.{Apart, far-apart, apart-far}
-
--- the distances
-
-length-extended : (given : List ℕ) (k : ℕ) → length (extended given k) ≡ length given + k
-length-extended given zero = let e = length-reverse given in omega arith
-length-extended given (suc k) = let e = length-extended given k in omega arith
-
-distance-given : (given : List ℕ) (k : ℕ) → k < length given → distance given (suc k) ≡ getD given k 0
-distance-given given k h =
-    let e₁ : suc k - length given ≡ 0 = omega arith in
-    let e₂ : suc k - 1 ≡ k = omega arith in
-    rw (e₁, e₂, reverse-reverse)
-
-distance-more : (given : List ℕ) (k : ℕ) → distance given (length given + suc k) ≡ largest-sum given (extended given k)
-distance-more given k =
-    let e₁ : length given + suc k - length given ≡ suc k = omega arith in
-    let n = length-extended given (suc k) in
-    let e₂ : length (extended given (suc k)) - 1 - (length given + suc k - 1) ≡ 0 = omega arith in
-    rw e₁ (getD-reverse (extended given (suc k)) (length given + suc k - 1) 0 (omega arith) ∙ ap (λ (x : ℕ). getD (extended given (suc k)) x 0) e₂)
-
-extended-at : (given : List ℕ) (k w : ℕ) → w < length given + k → getD (extended given k) w 0 ≡ distance given (length given + k - w)
-extended-at given zero w h =
-    let e : suc (length given - 1 - w) ≡ length given + 0 - w = omega arith in
-    getD-reverse given w 0 (omega arith) ∙ sym (distance-given given (length given - 1 - w) (omega arith)) ∙ ap (distance given) e
-extended-at given (suc k) zero h =
-    let e : length given + suc k ≡ length given + suc k - 0 = omega arith in
-    sym (distance-more given k) ∙ ap (distance given) e
-extended-at given (suc k) (suc w) h =
-    let e : length given + k - w ≡ length given + suc k - suc w = omega arith in
-    extended-at given k w (omega arith) ∙ ap (distance given) e
 
 largest-bound : (xs ds : List ℕ) (a b : ℕ) → a ≤ b → ((w : ℕ) → w < length xs → w < length ds → a + (getD xs w 0 + getD ds w 0) ≤ b) → a + largest-sum xs ds ≤ b
 largest-bound [] ds a b ab h = omega arith

@@ -5,7 +5,7 @@ ghost use mathlib.Core.List.{List};
 ghost use mathlib.Core.Path.{_≡_};
 ghost use Rattle.std.specs.Orderings.{Decides};
 ghost use Rattle.rules.specs.Layers.{layered, table-own};
-ghost use Rattle.limits.specs.Limits.{Keeps-table, largest, largest-sum};
+ghost use Rattle.limits.specs.Limits.{Distances, Keeps-table, distance, largest};
 ghost use Rattle.rules.specs.Lots.{First-lot, Second-lot};
 ghost use Rattle.rules.specs.Rules.{laid};
 ghost use Rattle.limits.specs.Values.{given, table-of};
@@ -22,6 +22,7 @@ use limits::Table;
 pub fn table_on<R: Rule>(table: Table, below: R) -> Layer<TableTally, R>
     ensures laid { λ r. ⌜ layer-means table-tally-own (R·Rule .meaning) r ≡ laid (table-of table) (R·Rule .meaning below) ⌝ }
     ensures distances { λ r. ⌜ ((ts : List ℕ) → Decides (layer-means table-tally-own (R·Rule .meaning) r .allows ts) ((R·Rule .meaning below .allows ts ≡ true) × Keeps-table (given table) ts)) ⌝ }
+    ensures table { λ _. ⌜ Distances (given table) (distance (given table)) ⌝ }
     ensures reach { λ r. ⌜ layer-reach table-tally-span (R·Rule .reaches) r ≡ max (R·Rule .reaches below) (largest (given table)) ⌝ }
     ensures lots { λ _. ⌜ ((past : List ℕ) → First-lot (layered (table-own (given table) past)) × Second-lot (layered (table-own (given table) past)) (largest (given table))) ⌝ }
 {

@@ -9,6 +9,7 @@ use Rattle.rules.proofs.LayerLaws.{first-lot, second-lot}
 use Rattle.rules.proofs.Laying.{laid-exactly}
 use Rattle.rules.proofs.Tables.{decides-table}
 use Rattle.rules.proofs.TableLaws.{table-begins, table-early, table-late, table-reach}
+use Rattle.rules.proofs.TableDistances.{distances}
 use Rattle.rules.proofs.TableSteps.{table-laid}
 use Rattle.rules.proofs.table_tally.counting.table_on.Needs as need
 
@@ -22,6 +23,7 @@ returns g c =
     record {
       laid = same;
       distances = laid-exactly (table ds) m (layered (table-own ds past) m) same (λ ts. decides-table ds ts);
+      table = distances ds;
       reach = refl;
       lots = λ past. (
         first-lot (table-own ds past) (table-begins ds past) (table-early ds past),
