@@ -86,8 +86,3 @@ Keeps (table given) ts = Keeps-table given ts
 abbrev pub largest : List ℕ → ℕ
 largest [] = 0
 largest (d ∷ ds) = max d (largest ds)
-
--- how long a limit can bar the next stroke: a period, or the largest given distance
-abbrev pub reach-of : Limit → ℕ
-reach-of (stair n p) = p
-reach-of (table given) = largest given
