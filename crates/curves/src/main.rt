@@ -1,4 +1,6 @@
 // Published limits in words: what they are, when a burst of strokes is due under them, and what an audit finds in a trace.
+#![tactic(auto)]
+
 use laid::{chime_drum, five_dues, nine_dues, ten_dues, three_stairs, two_distances};
 use records::Stroke;
 use telling::{tell_audit, tell_dues, tell_stair, tell_table};

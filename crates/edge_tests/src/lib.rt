@@ -1,4 +1,6 @@
 // Rules, audits and frames at the edges of their ranges. They are proved; these tests run them.
+#![tactic(auto)]
+
 #[cfg(test)]
 mod tests {
     use frames::{Frame, Line, SideBySide};

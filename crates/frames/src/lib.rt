@@ -1,4 +1,6 @@
 // Lines of bells, frames of lines, and runs of calls on them.
+#![tactic(auto)]
+
 mod call;
 mod frame;
 mod grant;

@@ -1,4 +1,6 @@
 // Limits on a hammer as values, and the refusals: what is made is in range.
+#![tactic(auto)]
+
 mod jitter;
 mod refusal;
 mod stair;

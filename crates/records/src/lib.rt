@@ -1,4 +1,6 @@
 // Records of requests and strokes, and their audit on a rule.
+#![tactic(auto)]
+
 mod auditing;
 mod record;
 mod request;

@@ -3,9 +3,9 @@ use Rattle.std.proofs.Common.{◌≡◌, ℕ, zero, suc, ◌+◌, ◌-◌, ◌<�
 use Rattle.std.proofs.lemmas.List.{take_more_set, take-append-drop, drop-set-lt, drop-drop}
 use Rattle.std.proofs.lemmas.Bool.Decides.{nat_tests}
 use Rattle.limits.specs.Strokes.{last_tick}
-use Rattle.rules.specs.Rules.{Meaning, may, struck, earliest}
+use Rattle.rules.specs.Rules.{Meaning, struck, earliest}
 use Rattle.rules.specs.Calls.{can_strike}
-use Rattle.rules.specs.Bursts.{dues, struck_by, burst_answer, Burst}
+use Rattle.rules.specs.Bursts.{dues, struck_by, Burst}
 use Rattle.rules.proofs.Least.{earliest_is, earliest_past}
 
 -- one request more

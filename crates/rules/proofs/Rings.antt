@@ -1,5 +1,5 @@
 -- Rings place by place: what stands where, what a write changes, and one step round.
-use Rattle.std.proofs.Common.{◌≡◌, ℕ, zero, suc, ◌+◌, ◌-◌, ◌%◌, ◌<◌, ◌≤◌, min, List, [], ◌∷◌, ◌++◌, length, get_or, take, drop, set, sym, refl, ap, ◌∙◌, ⊎_elim, append_assoc, append-nil, mod-eq_of_lt, arith, length-append, length-drop, length-set, length-take, length-take-le, take_all, rules}
+use Rattle.std.proofs.Common.{◌≡◌, ℕ, zero, suc, ◌+◌, ◌-◌, ◌%◌, ◌<◌, ◌≤◌, min, List, [], ◌∷◌, ◌++◌, length, get_or, take, drop, set, sym, refl, ap, ◌∙◌, ⊎_elim, append_assoc, append-nil, mod-eq_of_lt, arith, length-append, length-drop, length-set, length-take, length-take-le, take_all}
 use native.Mathlib.Nat.{mod-eq-sub-mod, mod_self}
 use lib.Seq.{take-set-lt, take-append-le}
 use Rattle.std.proofs.lemmas.List.{places, drop_all, drop_more, drop-set-add, drop-set-lt, take_more, take_more_set, take-set-le, set-append_left, set-append_right, get_or-set_same, take-take}

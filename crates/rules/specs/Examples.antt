@@ -1,5 +1,5 @@
 -- Worked examples of the definitions, in one statement.
-use Rattle.std.specs.Prelude.{◌≡◌, ℕ, true, false, List, [], ◌∷◌, replicate, Ok}
+use Rattle.std.specs.Prelude.{◌≡◌, ℕ, true, false, [], ◌∷◌, replicate, Ok}
 use Rattle.limits.specs.Limits.{stair, table, KeepsStair}
 use Rattle.rules.specs.Rules.{Meaning, pile, may, struck}
 use Rattle.rules.specs.Bursts.{dues}

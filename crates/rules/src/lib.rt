@@ -1,4 +1,6 @@
 // Rules for hammers: when may a bell's coil fire?
+#![tactic(auto)]
+
 mod bursting;
 mod layer;
 mod open_rule;

@@ -1,4 +1,6 @@
 // A short scene on a frame of three bells: what each call asks, and what it is answered.
+#![tactic(auto)]
+
 use calls::scene;
 use frames::run;
 use hanging::hang;

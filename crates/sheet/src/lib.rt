@@ -1,4 +1,6 @@
 // Ringing sheets: what their bytes say, and what is written for them.
+#![tactic(auto)]
+
 mod ask;
 
 pub use ask::{Ask, Wish};

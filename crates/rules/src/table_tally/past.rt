@@ -30,7 +30,8 @@ impl Past {
 
     // Remembers one more stroke, and no more than `room` in all.
     pub(super) fn remember(&mut self, t: u64, room: usize)
-        requires { (self.old.count ≤ 16) × (room ≤ 16) }
+        requires few { self.old.count ≤ 16 }
+        requires room { room ≤ 16 }
         ensures count { self.new.count ≤ room }
         ensures strokes { remembered self.new ≡ take room (t ∷ remembered self.old) }
     {

@@ -8,6 +8,6 @@ use Rattle.curves.proofs.laid.five_dues.Goals as goal
 
 pub returns : goal.returns
 returns c =
-    let laid : one_table_means c.in-ok-rule.rule ≡ pile (table (10 ∷ 30 ∷ []) ∷ []) = let e = c.in-ok-rule.ensures in cc in
-    let due = written_as (one_table_means c.in-ok-rule.rule) (pile (table (10 ∷ 30 ∷ []) ∷ [])) 0 (replicate 5 0) (told c.burst.result) c.burst.new.due (one_table_means c.burst.new.rule) c.burst.ensures.burst laid in
+    let laid : one_table_means c.in_ok-rule.rule ≡ pile (table (10 ∷ 30 ∷ []) ∷ []) = let e = c.in_ok-rule.ensures in cc in
+    let due = written_as (one_table_means c.in_ok-rule.rule) (pile (table (10 ∷ 30 ∷ []) ∷ [])) 0 (replicate 5 0) (told c.burst.result) c.burst.new.due (one_table_means c.burst.new.rule) c.burst.ensures.burst laid in
     ap {B = Result (List ℕ) ℕ} Ok due

@@ -9,7 +9,7 @@ use Rattle.curves.proofs.laid.two_distances.Goals as goal
 
 pub returns : goal.returns
 returns c =
-    let first : given c.push.new.self ≡ 10 ∷ [] = c.in-ok-push.ensures.left ∙ ap (λ (ds : List ℕ). ds ++ (10 ∷ [])) c.new-table.ensures in
-    let both : given c.push-2.new.self ≡ 10 ∷ 30 ∷ [] = c.in-ok-push-2.ensures.left ∙ ap (λ (ds : List ℕ). ds ++ (30 ∷ [])) first in
-    let one = laid_same (table_of c.push-2.new.self) (table (10 ∷ 30 ∷ [])) (one_table_means c.table-on.result) (open_means c.new.result) (pile []) c.table-on.ensures.laid (ap {B = Limit} table both) c.new.ensures in
+    let first : given c.push.new.self ≡ 10 ∷ [] = c.in_ok-push.ensures.left ∙ ap (λ (ds : List ℕ). ds ++ (10 ∷ [])) c.new-table.ensures in
+    let both : given c.push-2.new.self ≡ 10 ∷ 30 ∷ [] = c.in_ok-push-2.ensures.left ∙ ap (λ (ds : List ℕ). ds ++ (30 ∷ [])) first in
+    let one = laid_same (table_of c.push-2.new.self) (table (10 ∷ 30 ∷ [])) (one_table_means c.table_on.result) (open_means c.new.result) (pile []) c.table_on.ensures.laid (ap {B = Limit} table both) c.new.ensures in
     ap {B = Result Meaning ℕ} Ok one

@@ -6,17 +6,17 @@ use Rattle.frames.proofs.running.run.Goals as goal
 
 pub loop-call-init : goal.loop-call-init
 loop-call-init g c =
-    let made = c.in-ok-given.ensures in
+    let made = c.in_ok-given.ensures in
     (made.len, made.capacity, rw made.items (running_none (g.F.Frame.bells c.args.frame.now) c.args.calls.now))
 
 pub loop-call-preserved : goal.loop-call-preserved
 loop-call-preserved g c =
     let inv = c.loop-call.invariant in
-    let len = c.push-reserved.ensures.len in
-    let room = c.push-reserved.ensures.capacity in (
+    let len = c.push_reserved.ensures.len in
+    let room = c.push_reserved.ensures.capacity in (
       omega arith,
       omega arith,
-      rw (c.push-reserved.ensures.items, map_push told (vec_items c.loop-call.given) c.perform.result)
+      rw (c.push_reserved.ensures.items, map_push told (vec_items c.loop-call.given) c.perform.result)
           (running_more (g.F.Frame.bells c.args.frame.now) c.args.calls.now c.loop-call.call-index (map told (vec_items c.loop-call.given)) (g.F.Frame.bells c.loop-call.frame) (g.F.Frame.bells c.perform.new.frame) _ (told c.perform.result) c.loop-call-test.true c.perform.ensures.answer c.perform.ensures.left inv.2),
     )
 

@@ -5,18 +5,18 @@ use Rattle.rules.proofs.Bursts.{bursting_more, bursting_full, bursting_shut, bur
 use Rattle.rules.proofs.WorkedExamples.{worked_examples}
 use Rattle.rules.proofs.bursting.burst.Goals as goal
 
-pub returns-then-asked-gt-LAST-TICK : goal.returns-then-asked-gt-LAST-TICK
-returns-then-asked-gt-LAST-TICK g c = record {
+pub returns-then-asked-gt-LAST_TICK : goal.returns-then-asked-gt-LAST_TICK
+returns-then-asked-gt-LAST_TICK g c = record {
   burst = burst_past (g.R.Rule.meaning c.args.rule.now) c.args.asked c.args.due.now (omega arith);
   reach = refl;
   examples = worked_examples;
 }
 
-pub returns-in-default : goal.returns-in-default
-returns-in-default g c =
+pub returns-in_default : goal.returns-in_default
+returns-in_default g c =
     let m = g.R.Rule.meaning c.loop-i.rule in
-    let answer = c.in-ok-tick.ensures.answer in
-    let none : earliest m c.args.asked ≡ None = let is = c.in-default.is in grind (arith, nat_tests) in
+    let answer = c.in_ok-tick.ensures.answer in
+    let none : earliest m c.args.asked ≡ None = let is = c.in_default.is in grind (arith, nat_tests) in
     record {
       burst = bursting_shut (g.R.Rule.meaning c.args.rule.now) c.args.asked c.args.due.now c.loop-i.i m c.loop-i.due (omega arith) (omega arith) c.loop-i.invariant.0 none;
       reach = c.loop-i.invariant.1;
@@ -24,24 +24,24 @@ returns-in-default g c =
     }
 
 -- a tick that was found can be struck
-pub returns-in-err-strike : goal.returns-in-err-strike
-returns-in-err-strike g c =
+pub returns-in_err-strike : goal.returns-in_err-strike
+returns-in_err-strike g c =
     let m = g.R.Rule.meaning c.loop-i.rule in
-    let answer = c.in-ok-tick.ensures.answer in
+    let answer = c.in_ok-tick.ensures.answer in
     let some : earliest m c.args.asked ≡ Some c.in-Some.tick = let is = c.in-Some.is in grind (arith, nat_tests) in
     let can = earliest_strikes m c.args.asked c.in-Some.tick some in
-    let refused = c.in-err-strike.ensures.answer in
+    let refused = c.in_err-strike.ensures.answer in
     let z : ◌≡◌ {A = ℕ} 0 1 = grind (arith, nat_tests) in
     absurd (omega arith)
 
 pub loop-i-preserved : goal.loop-i-preserved
 loop-i-preserved g c =
     let m = g.R.Rule.meaning c.loop-i.rule in
-    let answer = c.in-ok-tick.ensures.answer in
+    let answer = c.in_ok-tick.ensures.answer in
     let some : earliest m c.args.asked ≡ Some c.in-Some.tick = let is = c.in-Some.is in grind (arith, nat_tests) in
-    let struck = c.in-ok-strike.ensures in (
+    let struck = c.in_ok-strike.ensures in (
       bursting_more (g.R.Rule.meaning c.args.rule.now) c.args.asked c.args.due.now c.loop-i.i m c.loop-i.due c.in-Some.tick (g.R.Rule.meaning c.strike.new.self) (omega arith) c.loop-i.invariant.0 some struck.left,
-      struck.same-reach ∙ c.loop-i.invariant.1,
+      struck.same_reach ∙ c.loop-i.invariant.1,
     )
 
 pub returns : goal.returns

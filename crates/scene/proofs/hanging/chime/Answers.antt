@@ -10,7 +10,7 @@ use Rattle.scene.proofs.hanging.chime.Goals as goal
 
 pub returns : goal.returns
 returns c =
-    let first : given c.push.new.self ≡ 400 ∷ [] = c.in-ok-push.ensures.left ∙ ap (λ (ds : List ℕ). ds ++ (400 ∷ [])) c.new-table.ensures in
-    let both : given c.push-2.new.self ≡ 400 ∷ 1000 ∷ [] = c.in-ok-push-2.ensures.left ∙ ap (λ (ds : List ℕ). ds ++ (1000 ∷ [])) first in
-    let rule = laid_same (table_of c.push-2.new.self) (table (400 ∷ 1000 ∷ [])) (one_table c.table-on-rule.result) (open_means c.new-open.result) (pile []) c.table-on-rule.ensures.laid (ap {B = Limit} table both) c.new-open.ensures in
+    let first : given c.push.new.self ≡ 400 ∷ [] = c.in_ok-push.ensures.left ∙ ap (λ (ds : List ℕ). ds ++ (400 ∷ [])) c.new-table.ensures in
+    let both : given c.push-2.new.self ≡ 400 ∷ 1000 ∷ [] = c.in_ok-push-2.ensures.left ∙ ap (λ (ds : List ℕ). ds ++ (1000 ∷ [])) first in
+    let rule = laid_same (table_of c.push-2.new.self) (table (400 ∷ 1000 ∷ [])) (one_table c.table_on-rule.result) (open_means c.new-open.result) (pile []) c.table_on-rule.ensures.laid (ap {B = Limit} table both) c.new-open.ensures in
     ap {B = Result Bell ℕ} Ok (c.new-line.ensures.bell ∙ ap fresh rule)

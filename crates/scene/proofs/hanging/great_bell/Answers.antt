@@ -10,6 +10,6 @@ use Rattle.scene.proofs.hanging.great_bell.Goals as goal
 
 pub returns : goal.returns
 returns c =
-    let stair-is : stair_of c.in-ok-stair.stair ≡ stair 2 60000 = let e = c.in-ok-stair.ensures in cc in
-    let rule = laid_same (stair_of c.in-ok-stair.stair) (stair 2 60000) (one_stair c.stair-on-rule.result) (open_means c.new-open.result) (pile []) c.stair-on-rule.ensures.laid stair-is c.new-open.ensures in
+    let stair-is : stair_of c.in_ok-stair.stair ≡ stair 2 60000 = let e = c.in_ok-stair.ensures in cc in
+    let rule = laid_same (stair_of c.in_ok-stair.stair) (stair 2 60000) (one_stair c.stair_on-rule.result) (open_means c.new-open.result) (pile []) c.stair_on-rule.ensures.laid stair-is c.new-open.ensures in
     ap {B = Result Bell ℕ} Ok (c.new-line.ensures.bell ∙ ap fresh rule)

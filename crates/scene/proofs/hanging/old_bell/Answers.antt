@@ -10,9 +10,9 @@ use Rattle.scene.proofs.hanging.old_bell.Goals as goal
 
 pub returns : goal.returns
 returns c =
-    let slow-is : stair_of c.in-ok-slow.slow ≡ stair 1 2000 = let e = c.in-ok-slow.ensures in cc in
-    let slower-is : stair_of c.in-ok-slower.slower ≡ stair 2 3000 = let e = c.in-ok-slower.ensures in cc in
-    let below = laid_same (stair_of c.in-ok-slow.slow) (stair 1 2000) (one_stair c.stair-on-below.result) (open_means c.new-open.result) (pile []) c.stair-on-below.ensures.laid slow-is c.new-open.ensures in
-    let rung = c.in-ok-strike.ensures.left ∙ ap (struck 500) below in
-    let rule = laid_same (stair_of c.in-ok-slower.slower) (stair 2 3000) (stair_on_stair c.stair-on-rule.result) (one_stair c.strike.new.self) (struck 500 (pile (stair 1 2000 ∷ []))) c.stair-on-rule.ensures.laid slower-is rung in
+    let slow-is : stair_of c.in_ok-slow.slow ≡ stair 1 2000 = let e = c.in_ok-slow.ensures in cc in
+    let slower-is : stair_of c.in_ok-slower.slower ≡ stair 2 3000 = let e = c.in_ok-slower.ensures in cc in
+    let below = laid_same (stair_of c.in_ok-slow.slow) (stair 1 2000) (one_stair c.stair_on-below.result) (open_means c.new-open.result) (pile []) c.stair_on-below.ensures.laid slow-is c.new-open.ensures in
+    let rung = c.in_ok-strike.ensures.left ∙ ap (struck 500) below in
+    let rule = laid_same (stair_of c.in_ok-slower.slower) (stair 2 3000) (stair_on_stair c.stair_on-rule.result) (one_stair c.strike.new.self) (struck 500 (pile (stair 1 2000 ∷ []))) c.stair_on-rule.ensures.laid slower-is rung in
     ap {B = Result Bell ℕ} Ok (c.new-line.ensures.bell ∙ ap fresh rule)

@@ -2,12 +2,16 @@ use Rattle.std.proofs.Common.{◌≡◌, length, ◌∙◌, arith, length-set}
 use Rattle.rules.proofs.Rings.{ring_length, ring_push}
 use Rattle.frames.proofs.queue.Queue.push.Goals as goal
 
-pub invariant-of-self : goal.invariant-of-self
-invariant-of-self c =
+pub invariant_of-self : goal.invariant_of-self
+invariant_of-self c =
     let s = c.args.self.now in
     let long = s.long in
     let held = ring_length s.places s.first (omega (arith, s.inside)) s.count (omega (arith, s.few)) in
-    (length-set s.places _ c.args.grant ∙ s.long, (s.inside, (omega (arith, c.requires), tt)))
+    record {
+      long = length-set s.places _ c.args.grant ∙ s.long;
+      inside = s.inside;
+      few = omega (arith, c.requires);
+    }
 
 pub returns : goal.returns
 returns c =

@@ -1,4 +1,4 @@
-use Rattle.std.proofs.Common.{◌≡◌, ℕ, ◌+◌, ◌-◌, ◌<◌, true, length, take, sym, ap, ◌∙◌, arith, rules}
+use Rattle.std.proofs.Common.{◌≡◌, ℕ, ◌+◌, ◌-◌, ◌<◌, true, length, take, sym, ap, ◌∙◌, arith}
 use Rattle.limits.specs.Strokes.{never_falls}
 use Rattle.limits.specs.Limits.{largest}
 use Rattle.limits.proofs.Rising.{largest_last}

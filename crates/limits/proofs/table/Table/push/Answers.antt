@@ -1,8 +1,6 @@
-use Rattle.std.proofs.Common.{◌≡◌, ℕ, ◌+◌, ◌-◌, ◌<◌, ◌≤◌, true, [], ◌∷◌, ◌++◌, length, take, set, sym, refl, ap, ◌∙◌, arith, length-take-le}
+use Rattle.std.proofs.Common.{◌≡◌, ◌+◌, [], ◌∷◌, ◌++◌, length, take, set, refl, arith, length-take-le}
 use Rattle.std.proofs.lemmas.List.{take_more_set}
 use Rattle.std.proofs.lemmas.Bool.Decides.{nat_tests}
-use Rattle.limits.specs.Strokes.{never_falls, longest}
-use Rattle.limits.specs.Limits.{largest}
 use Rattle.limits.specs.Values.{given}
 use Rattle.limits.proofs.Rising.{largest_push, rising_push}
 use Rattle.limits.proofs.table.Table.push.Goals as goal
@@ -21,14 +19,18 @@ returns-then-distance-gt-LONGEST c =
       left = refl;
     }
 
-pub invariant-of-self : goal.invariant-of-self
-invariant-of-self c =
+pub invariant_of-self : goal.invariant_of-self
+invariant_of-self c =
     let s = c.args.self.now in
     let d = c.args.distance in
     let e : take (s.count + 1) (set s.distances s.count d) ≡ given s ++ (d ∷ []) = take_more_set s.distances s.count d (omega (arith, s.few)) in
     let rise = rising_push (given s) d in
     let top = largest_push (given s) d in
-    (omega (arith, s.few), (rw e (grind (arith, nat_tests, s.rising)), (rw e (omega (arith, s.short)), tt)))
+    record {
+      few = omega (arith, s.few);
+      rising = rw e (grind (arith, nat_tests, s.rising));
+      short = rw e (omega (arith, s.short));
+    }
 
 pub returns : goal.returns
 returns c =

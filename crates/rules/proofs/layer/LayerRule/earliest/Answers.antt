@@ -6,8 +6,8 @@ use Rattle.rules.specs.Layers.{layered}
 use Rattle.rules.proofs.Least.{earliest_barred, earliest_past, answer_least}
 use Rattle.rules.proofs.layer.LayerRule.earliest.Goals as goal
 
-pub returns-then-from-gt-LAST-TICK : goal.returns-then-from-gt-LAST-TICK
-returns-then-from-gt-LAST-TICK g c =
+pub returns-then-from-gt-LAST_TICK : goal.returns-then-from-gt-LAST_TICK
+returns-then-from-gt-LAST_TICK g c =
     let l = c.args.self.now in
     let t = c.args.t in
     let own = g.T.Tally.own l.tally in

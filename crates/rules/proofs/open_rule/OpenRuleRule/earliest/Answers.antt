@@ -6,8 +6,8 @@ use Rattle.rules.proofs.Least.{earliest_open, earliest_shut, answer_least}
 use Rattle.rules.specs.OpenLaws.{open_may}
 use Rattle.rules.proofs.open_rule.OpenRuleRule.earliest.Goals as goal
 
-pub returns-then-from-gt-LAST-TICK : goal.returns-then-from-gt-LAST-TICK
-returns-then-from-gt-LAST-TICK c =
+pub returns-then-from-gt-LAST_TICK : goal.returns-then-from-gt-LAST_TICK
+returns-then-from-gt-LAST_TICK c =
     let r = c.args.self.now in
     let t = c.args.t in
     let e = earliest_shut (unwrap_or r.last 0) t (open_means r) (open_may r.last) (omega arith) (omega arith) in

@@ -1,4 +1,4 @@
-use Rattle.std.proofs.Common.{◌≡◌, [], sym, refl, ap, ◌∙◌, arith}
+use Rattle.std.proofs.Common.{◌≡◌, refl}
 use Rattle.rules.specs.Layers.{layered, table_own}
 use Rattle.limits.specs.Limits.{table}
 use Rattle.limits.specs.Values.{given}

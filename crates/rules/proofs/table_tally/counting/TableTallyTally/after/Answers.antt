@@ -1,4 +1,4 @@
-use Rattle.std.proofs.Common.{◌≡◌, ℕ, ◌≤◌, ◌∷◌, length, take, refl, ap, ◌∙◌, arith, length-take}
+use Rattle.std.proofs.Common.{ℕ, ◌≤◌, ◌∷◌, length, take, refl, ap, ◌∙◌, arith, length-take}
 use Rattle.std.proofs.lemmas.Bool.Decides.{nat_tests}
 use Rattle.limits.specs.Limits.{largest, largest_sum}
 use Rattle.limits.specs.Strokes.{last_tick}
@@ -12,10 +12,10 @@ remember-requires c =
     let s = c.args.self.now in
     let n = length-take s.table.count s.table.distances in
     let e = ap length c.distances.ensures in
-    (s.few, omega (arith, s.table.few))
+    record { few = s.few; room = omega (arith, s.table.few) }
 
-pub invariant-of-result : goal.invariant-of-result
-invariant-of-result c =
+pub invariant_of-result : goal.invariant_of-result
+invariant_of-result c =
     let s = c.args.self.now in
     let t = c.args.t in
     let ds = given s.table in
@@ -27,7 +27,7 @@ invariant-of-result c =
     let newest = newest_largest ds (remembered s.past) t free in
     let past = c.remember.ensures.strokes ∙ ap (λ (k : ℕ). take k (t ∷ remembered s.past)) e in
     let top : largest (remembered c.remember.new.self) ≤ last_tick = rw past (omega arith) in
-    (omega (arith, s.table.few, c.remember.ensures.count), (top, tt))
+    record { few = omega (arith, s.table.few, c.remember.ensures.count); ticks = top }
 
 pub returns : goal.returns
 returns c =

@@ -1,4 +1,4 @@
-use Rattle.std.proofs.Common.{◌≡◌, suc, ◌+◌, ◌≤◌, max, [], get_or, drop, refl, add-one, arith}
+use Rattle.std.proofs.Common.{◌≡◌, ◌+◌, ◌≤◌, max, get_or, drop, add-one, arith}
 use Rattle.limits.specs.Limits.{largest, largest_sum}
 use Rattle.limits.specs.Values.{given}
 use Rattle.rules.specs.Values.{remembered}
@@ -6,8 +6,8 @@ use Rattle.limits.specs.Strokes.{last_tick, longest}
 use Rattle.rules.proofs.TableSteps.{largest_at, largest_sum_more, largest_sum_all, table_opens}
 use Rattle.rules.proofs.table_tally.counting.TableTallyTally.opens.Goals as goal
 
-pub overflow-add-strokes : goal.overflow-add-strokes
-overflow-add-strokes c =
+pub overflow_add-strokes : goal.overflow_add-strokes
+overflow_add-strokes c =
     let s = c.args.self.now in
     let ds = c.distances-distances.result.now in
     let xs = c.strokes-strokes.result.now in

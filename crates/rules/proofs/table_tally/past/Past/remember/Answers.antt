@@ -12,5 +12,5 @@ returns c =
     let part : mid_of 0 (kept - 0) xs ≡ take kept xs = ap (λ (k : ℕ). take k xs) (let e : kept - 0 ≡ kept = omega arith in e) in
     record {
       count = omega arith;
-      strokes = ap (λ (ys : List ℕ). take kept (ys ++ rest)) c.shift-in.ensures ∙ take-shifted c.args.t c.args.room s.count kept xs (mid_of 0 (kept - 0) xs) rest part c.min-count.ensures (omega arith) (omega arith);
+      strokes = ap (λ (ys : List ℕ). take kept (ys ++ rest)) c.shift_in.ensures ∙ take-shifted c.args.t c.args.room s.count kept xs (mid_of 0 (kept - 0) xs) rest part c.min-count.ensures (omega arith) (omega arith);
     }
