@@ -1,5 +1,5 @@
 -- The due tick that a bell last handed out is that of the last stroke handed out, and its clock has passed it.
-use Rattle.std.proofs.Common.{◌≡◌, ℕ, ◌≤◌, List, [], ◌∷◌, ◌++◌, Some, None, Ok, Option, unwrap_or, sym, refl, ap, ◌∙◌, subst, arith}
+use Rattle.std.proofs.Common.{◌≡◌, ℕ, ◌≤◌, List, [], ◌∷◌, ◌++◌, Some, None, Ok, Option, unwrap_or, refl, ap, ◌∙◌, arith}
 use Rattle.std.proofs.lemmas.Bool.Decides.{nat_tests}
 use Rattle.frames.specs.Bells.{Bell, answer_of, left_of, outcome}
 use Rattle.frames.specs.Runs.{handing, handed, last_due, ReachesBack}

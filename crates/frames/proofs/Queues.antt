@@ -1,5 +1,5 @@
 -- No granted stroke is lost, changed or overtaken: the granted strokes are those handed out, and then those that wait, in order.
-use Rattle.std.proofs.Common.{◌≡◌, List, [], ◌∷◌, ◌++◌, Option, refl, append_assoc, append-nil, arith}
+use Rattle.std.proofs.Common.{◌≡◌, List, [], ◌∷◌, ◌++◌, Option, append_assoc, append-nil, arith}
 use Rattle.frames.specs.Bells.{Bell, answer_of, left_of}
 use Rattle.frames.specs.Runs.{grant, granted, handing, handed, held}
 use Rattle.frames.specs.declared.call.Action.{Action}

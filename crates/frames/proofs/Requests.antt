@@ -2,7 +2,6 @@
 use Rattle.std.proofs.Common.{◌≡◌, ℕ, ◌+◌, ◌<◌, ◌≤◌, max, true, false, leb, [], length, Some, None, Ok, Option, refl, ⊎_elim, arith, MatchOption}
 use Rattle.std.proofs.lemmas.Bool.{both_ways, cases_lt}
 use Rattle.std.proofs.lemmas.Bool.Decides.{nat_tests}
-use Rattle.limits.specs.Strokes.{last_tick}
 use Rattle.rules.specs.Rules.{Meaning, Late, Reach, Least, may, earliest}
 use Rattle.rules.proofs.Least.{earliest_is}
 use Rattle.frames.specs.Bells.{Bell, most_waiting, timely, requested, granted_at}

@@ -1,5 +1,5 @@
 -- The ring of the strokes that wait: its first, and what is left without it.
-use Rattle.std.proofs.Common.{◌≡◌, ℕ, zero, suc, ◌+◌, ◌-◌, ◌%◌, ◌<◌, ◌≤◌, List, [], ◌∷◌, length, get_or, drop, Some, refl, ap, arith}
+use Rattle.std.proofs.Common.{◌≡◌, ℕ, zero, suc, ◌+◌, ◌-◌, ◌%◌, ◌<◌, ◌≤◌, List, length, get_or, drop, Some, refl, arith}
 use Rattle.rules.specs.Rings.{in_ring}
 use Rattle.rules.proofs.Rings.{ring_first}
 use Rattle.frames.specs.Bells.{oldest}

@@ -1,5 +1,5 @@
 -- Lines and frames side by side, bell by bell.
-use Rattle.std.specs.Prelude.{◌≡◌, ℕ, ◌-◌, ◌/◌, ◌%◌, Bool, true, false, cond, Some, None, Option, ◌==◌, refl}
+use Rattle.std.specs.Prelude.{◌≡◌, ℕ, ◌-◌, ◌/◌, ◌%◌, Bool, true, false, cond, Some, None, Option, ◌==◌}
 use Rattle.std.proofs.Common.{subst, arith}
 use Rattle.frames.specs.Bells.{Bell, Bells, Every, alone, beside}
 

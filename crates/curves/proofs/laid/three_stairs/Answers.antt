@@ -1,6 +1,6 @@
-use Rattle.std.proofs.Common.{◌≡◌, ℕ, List, [], ◌∷◌, Ok, Result, refl, ap, ◌∙◌}
-use Rattle.limits.specs.Limits.{Limit, stair}
-use Rattle.rules.specs.Rules.{Meaning, laid, pile, open_rule}
+use Rattle.std.proofs.Common.{◌≡◌, ℕ, [], ◌∷◌, Ok, Result, ap}
+use Rattle.limits.specs.Limits.{stair}
+use Rattle.rules.specs.Rules.{Meaning, pile}
 use Rattle.limits.specs.Values.{stair_of}
 use Rattle.rules.specs.Values.{open_means}
 use Rattle.rules.proofs.Laying.{laid_same}

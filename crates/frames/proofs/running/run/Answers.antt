@@ -1,4 +1,4 @@
-use Rattle.std.proofs.Common.{◌≡◌, map, vec_items, ap, ◌∙◌, arith}
+use Rattle.std.proofs.Common.{map, vec_items, arith}
 use Rattle.std.proofs.lemmas.List.{map_push}
 use Rattle.limits.specs.Refusals.{told}
 use Rattle.frames.proofs.CallByCall.{running_none, running_more, running_done, running_governed}

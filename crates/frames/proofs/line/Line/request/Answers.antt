@@ -14,7 +14,7 @@ returns g c =
     let d = c.in-Some.due in
     let time : timely l.clock t ≡ Ok tt = sym c.in_ok-in_time.ensures in
     let some : earliest b.rule t ≡ Some d = let answer = c.in_ok-due.ensures.answer in let found = c.in-Some.is in grind (arith, nat_tests) in
-    let is : requested b t ≡ granted_at b t (Some d) = granted_is b t d time (sym c.if-is-full.ensures) some in
+    let is : requested b t ≡ granted_at b t (Some d) = granted_is b t d time (sym c.if-is_full.ensures) some in
     record {
       answer = sym (ap (λ (o : Outcome). o.0) is);
       left = same_bell _ (granted_at b t (Some d)).1 c.in_ok-strike.ensures.left refl c.push.ensures refl ∙ sym (ap (λ (o : Outcome). o.1) is);
