@@ -5,5 +5,5 @@ mod Soonest
 mod Queues
 mod Waiting
 mod Gaps
-mod Governing
+pub mod Governing
 mod CallByCall

@@ -1,1 +1,1 @@
-mod Audits
+pub mod Audits

@@ -5,10 +5,10 @@ pub mod Least
 pub mod Laying
 mod Stairs
 mod Walks
-mod StairSteps
+pub mod StairSteps
 mod Tables
 mod TableDistances
 mod TableWalks
-mod TableSteps
+pub mod TableSteps
 mod Bursts
 mod WorkedExamples
