@@ -12,6 +12,7 @@ import sys
 DEFINED = re.compile(r"^\s*(?:abbrev |unfoldable )?(?:pub )?(?:record |data )?([^\s(){};,.:λ]+)(?: [({].*?)? : ")
 ANSWER = re.compile(r" : (?:goal|need|given)\.")
 TOKEN = re.compile(r"[^\s(){}\[\];,.:\"`]+")
+OTHERWISE = {"first-of": "first_passing", "first-of-is": "first_passing_is"}  # first_of is a tactic
 TWO_FUNCTIONS = {
     "length-extended", "length-first", "length-lengthened", "length-parted", "lengthened-take", "parted-rejoined",
     "rejoined-lengthened", "rejoined-parted", "entries-append", "due-append", "joined-append", "last-append", "take-cons",
@@ -37,6 +38,8 @@ def defined():
 
 
 def respelled(name):
+    if name in OTHERWISE:
+        return OTHERWISE[name]
     if name in TWO_FUNCTIONS:
         return name
     parts = name.split("-")

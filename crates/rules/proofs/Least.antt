@@ -3,7 +3,7 @@ use Rattle.std.proofs.Common.{◌≡◌, ℕ, zero, suc, ◌+◌, ◌-◌, ◌<�
 use Rattle.std.proofs.lemmas.Bool.{both_ways, cases_order}
 use Rattle.std.proofs.lemmas.Bool.Decides.{nat_tests}
 use Rattle.limits.specs.Strokes.{last_tick}
-use Rattle.rules.specs.Rules.{Meaning, may, Least, first_of, earliest}
+use Rattle.rules.specs.Rules.{Meaning, may, Least, first_passing, earliest}
 use Rattle.rules.specs.Layers.{layered}
 use Rattle.rules.specs.Calls.{earliest_from}
 use Rattle.limits.specs.Refusals.{told}
@@ -22,15 +22,15 @@ found : (ok : ℕ → Bool) (t k : ℕ) (r : Option ℕ) (e : Bool) → ok t ≡
 found ok t k r true p h = (omega arith, omega arith, p, λ u l m. absurd (omega arith))
 found ok t k r false p h = later ok t k r p h
 
-first_of_is : (ok : ℕ → Bool) (t k : ℕ) → First ok t k (first_of ok t k)
-first_of_is ok t zero = λ u l m. absurd (omega arith)
-first_of_is ok t (suc k) = found ok t k (first_of ok (suc t) k) (ok t) refl (first_of_is ok (suc t) k)
+first_passing_is : (ok : ℕ → Bool) (t k : ℕ) → First ok t k (first_passing ok t k)
+first_passing_is ok t zero = λ u l m. absurd (omega arith)
+first_passing_is ok t (suc k) = found ok t k (first_passing ok (suc t) k) (ok t) refl (first_passing_is ok (suc t) k)
 
 to_least : (m : Meaning) (t : ℕ) (r : Option ℕ) → First (may m) t (suc last_tick - t) r → Least m t r
 to_least m t r h = grind arith
 
 pub earliest_is : (m : Meaning) (t : ℕ) → Least m t (earliest m t)
-earliest_is m t = to_least m t (earliest m t) (first_of_is (may m) t (suc last_tick - t))
+earliest_is m t = to_least m t (earliest m t) (first_passing_is (may m) t (suc last_tick - t))
 
 -- there is but one
 only : (m : Meaning) (t : ℕ) (r s : Option ℕ) → Least m t r → Least m t s → r ≡ s

@@ -21,13 +21,13 @@ abbrev pub Least : Meaning → ℕ → Option ℕ → Type 0
 Least m t r = MatchOption r ((u : ℕ) → t ≤ u → u ≤ last_tick → may m u ≡ false) (λ d. (t ≤ d) × (d ≤ last_tick) × (may m d ≡ true) × ((u : ℕ) → t ≤ u → u < d → may m u ≡ false))
 
 -- the first of the k numbers from t on that passes the test
-abbrev pub first_of : (ℕ → Bool) → ℕ → ℕ → Option ℕ
-first_of ok t zero = None
-first_of ok t (suc k) = elim (ok t) [ true ↦ Some t | false ↦ first_of ok (suc t) k ]
+abbrev pub first_passing : (ℕ → Bool) → ℕ → ℕ → Option ℕ
+first_passing ok t zero = None
+first_passing ok t (suc k) = elim (ok t) [ true ↦ Some t | false ↦ first_passing ok (suc t) k ]
 
 -- that tick
 abbrev pub earliest : Meaning → ℕ → Option ℕ
-earliest m t = first_of (may m) t (suc last_tick - t)
+earliest m t = first_passing (may m) t (suc last_tick - t)
 
 -- what is let through never falls; the empty list is, and with a list its first few strokes are
 pub record Order (m : Meaning) : Type 0 where

@@ -7,7 +7,6 @@ ghost use Rattle.rules.specs.Rules.{laid};
 ghost use Rattle.limits.specs.Values.{burst_of, period_of, stair_of};
 ghost use Rattle.rules.specs.Values.{stair_tally_own, stair_tally_span, layer_means, layer_reach};
 ghost use Rattle.rules.specs.StairLaws.{stair_begins, stair_early, stair_late, stair_reach};
-ghost use Rattle.std.proofs.Common.{rules, arith};
 
 use crate::layer::Layer;
 use crate::rule::Rule;
@@ -41,7 +40,7 @@ impl Tally for StairTally {
 
     ghost reached = { λ s. stair_reach s.stair.burst s.stair.period s.whole s.stair.some };
 
-    ghost bounded = { first_of (Prim.search rules, Prim.grind (arith, Self.row.coded.inj)) };
+    ghost bounded = { λ s. s.stair.short };
 
     fn opens(&self) -> u64 {
         let spent = self.whole + self.stair.period();

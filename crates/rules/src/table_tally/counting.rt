@@ -7,7 +7,6 @@ ghost use Rattle.rules.specs.Rules.{laid};
 ghost use Rattle.limits.specs.Values.{given, table_of};
 ghost use Rattle.rules.specs.Values.{layer_means, layer_reach, table_tally_own, table_tally_span, remembered};
 ghost use Rattle.rules.specs.TableLaws.{table_begins, table_early, table_late, table_reach};
-ghost use Rattle.std.proofs.Common.{rules, arith};
 
 use crate::layer::Layer;
 use crate::rule::Rule;
@@ -46,7 +45,7 @@ impl Tally for TableTally {
 
     ghost reached = { λ s. table_reach (given s.table) (remembered s.past) };
 
-    ghost bounded = { first_of (Prim.search rules, Prim.grind (arith, Self.row.coded.inj)) };
+    ghost bounded = { λ s. s.table.short };
 
     fn opens(&self) -> u64 {
         let distances = self.table.distances();
