@@ -12,7 +12,8 @@ import sys
 DEFINED = re.compile(r"^\s*(?:abbrev |unfoldable )?(?:pub )?(?:record |data )?([^\s(){};,.:λ]+)(?: [({].*?)? : ")
 ANSWER = re.compile(r" : (?:goal|need|given)\.")
 TOKEN = re.compile(r"[^\s(){}\[\];,.:\"`]+")
-OTHERWISE = {"first-of": "first_passing", "first-of-is": "first_passing_is"}  # first_of is a tactic
+# The toolchain turned `first-of` into the name of a tactic.
+OTHERWISE = {"first_of": "first_passing", "first-of-is": "first_passing_is", "first_of_is": "first_passing_is"}
 TWO_FUNCTIONS = {
     "length-extended", "length-first", "length-lengthened", "length-parted", "lengthened-take", "parted-rejoined",
     "rejoined-lengthened", "rejoined-parted", "entries-append", "due-append", "joined-append", "last-append", "take-cons",
@@ -42,6 +43,8 @@ def respelled(name):
         return OTHERWISE[name]
     if name in TWO_FUNCTIONS:
         return name
+    if "-" not in name:
+        return name
     parts = name.split("-")
     if name[0].isupper():
         return "".join(p[:1].upper() + p[1:] for p in parts)
@@ -50,7 +53,7 @@ def respelled(name):
 
 def main():
     names = defined()
-    new = {n: respelled(n) for n in names if "-" in n and respelled(n) != n}
+    new = {n: respelled(n) for n in names if respelled(n) != n}
     for n, r in new.items():
         if r in names:
             print(f"falls together: {n} and {r} ({names[n]}, {names[r]})")
@@ -61,17 +64,18 @@ def main():
         if len(ns) > 1:
             print(f"falls together: {ns} in {r}")
 
-    def words(text):
-        return TOKEN.sub(lambda m: new.get(m.group(0), m.group(0)), text)
+    def words(text, names):
+        return TOKEN.sub(lambda m: names.get(m.group(0), m.group(0)), text)
 
+    dashed = {n: r for n, r in new.items() if "-" in n}
     changed = 0
     for f in files("specs", "proofs") + sorted(glob.glob("crates/*/src/**/*.rt", recursive=True)):
         old = open(f, encoding="utf-8").read()
         if f.endswith(".rt"):
             parts = re.split(r"(//[^\n]*|\"(?:\\.|[^\"\\])*\")", old)
-            text = "".join(p if i % 2 else words(p) for i, p in enumerate(parts))
+            text = "".join(p if i % 2 else words(p, dashed) for i, p in enumerate(parts))
         else:
-            text = words(old)
+            text = words(old, new)
         if "AllByRecursion as All" in text:
             text = text.replace("AllByRecursion as All", "AllByRecursion")
             text = re.sub(r"(?<![A-Za-z_\-'.{])All(?![A-Za-z_\-'])", "AllByRecursion", text)
