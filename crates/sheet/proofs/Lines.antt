@@ -58,7 +58,7 @@ good_call n q part parts a [] asks n₈ is w r g =
     let text = g.text in
     record { text = cc; count = omega arith; eight = omega arith; placed = inr (omega arith); hangable = tt; writable = (w, g.writable); few = λ h. omega (arith, few (left h)) }
 
--- a line is its fields, joined-by
+-- a line is its fields, joined
 line_is : (part : List ℕ) (fs : List (List ℕ)) → parted tab part ≡ fs → part ≡ join_with_byte tab fs
 line_is part fs e = sym (rejoined-parted tab part) ∙ ap (join_with_byte tab) e
 

@@ -15,7 +15,7 @@ lengthened c [] = []
 lengthened c (p ∷ ps) = (c ∷ p) ∷ ps
 
 -- what stands before, between and behind the bytes s: always one part more than there are such bytes.
--- `rejoined s` of std puts them together again
+-- `join_with_byte s` of std puts them together again
 abbrev pub parted : ℕ → List ℕ → List (List ℕ)
 parted s [] = [] ∷ []
 parted s (c ∷ cs) = elim (c == s) [ true ↦ [] ∷ parted s cs | false ↦ lengthened c (parted s cs) ]
