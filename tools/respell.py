@@ -3,7 +3,8 @@
 
 Run once, at the top, right after the toolchain's own script of the port. What a file of specs/ or proofs/ defines under a
 name with dashes gets camel case where it begins with a capital (a fact or a type) and underscores elsewhere. A dash stays
-where a lemma is named after two functions, as in `length-first`. Comments of .rt files, strings and Rust names stay.
+where a lemma is named after two functions, as in `length-first`. Comments of .rt files, strings and Rust names stay. The
+library's recursive `All` is called by its own name of today, `AllByRecursion`.
 """
 import glob
 import re
@@ -64,8 +65,8 @@ def main():
         if len(ns) > 1:
             print(f"falls together: {ns} in {r}")
 
-    def words(text, names):
-        return TOKEN.sub(lambda m: names.get(m.group(0), m.group(0)), text)
+    def words(text, spelling):
+        return TOKEN.sub(lambda m: spelling.get(m.group(0), m.group(0)), text)
 
     dashed = {n: r for n, r in new.items() if "-" in n}
     changed = 0
