@@ -3,6 +3,7 @@
 
 use laid::{chime_drum, five_dues, nine_dues, ten_dues, three_stairs, two_distances};
 use records::Stroke;
+use rules::Tally;
 use telling::{tell_audit, tell_dues, tell_stair, tell_table};
 
 mod laid;
@@ -17,12 +18,12 @@ fn stroke(bell: u64, tick: u64) -> Stroke {
     }
 }
 
-fn tell_stairs(rt: &HostRuntime) -> anyhow::Result<()> {
+fn tell_stairs(rt: &(impl Print + AllocGlobal)) -> anyhow::Result<()> {
     let mut rule = three_stairs()?;
     println!(rt; "Three stairs, each laid on the next. In any stretch of time there are")?;
-    tell_stair(rt, &rule.tally.stair())?;
-    tell_stair(rt, &rule.below.tally.stair())?;
-    tell_stair(rt, &rule.below.below.tally.stair())?;
+    tell_stair(rt, rule.tally.limit())?;
+    tell_stair(rt, rule.below.tally.limit())?;
+    tell_stair(rt, rule.below.below.tally.limit())?;
     tell_dues(rt, &nine_dues()?)?;
     let trace = [
         stroke(1, 0),
@@ -38,10 +39,10 @@ fn tell_stairs(rt: &HostRuntime) -> anyhow::Result<()> {
     tell_audit(rt, 1, &trace, &mut rule)
 }
 
-fn tell_distances(rt: &HostRuntime) -> anyhow::Result<()> {
+fn tell_distances(rt: &(impl Print + AllocGlobal)) -> anyhow::Result<()> {
     let mut rule = two_distances()?;
     println!(rt; "A table. There are")?;
-    tell_table(rt, &rule.tally.table())?;
+    tell_table(rt, &rule.tally.limit())?;
     tell_dues(rt, &five_dues()?)?;
     let trace = [
         stroke(2, 5),
@@ -54,14 +55,14 @@ fn tell_distances(rt: &HostRuntime) -> anyhow::Result<()> {
     tell_audit(rt, 1, &trace, &mut rule)
 }
 
-fn tell_drum(rt: &HostRuntime) -> anyhow::Result<()> {
+fn tell_drum(rt: &(impl Print + AllocGlobal)) -> anyhow::Result<()> {
     let mut rule = chime_drum()?;
     println!(rt;
         "A chime drum strikes every 100 ms, each stroke up to 300 ms late, and none less than 20 ms after another."
     )?;
     println!(rt; "That takes two stairs. In any stretch of time there are")?;
-    tell_stair(rt, &rule.below.tally.stair())?;
-    tell_stair(rt, &rule.tally.stair())?;
+    tell_stair(rt, rule.below.tally.limit())?;
+    tell_stair(rt, rule.tally.limit())?;
     tell_dues(rt, &ten_dues()?)?;
     let trace = [
         stroke(1, 0),
@@ -75,12 +76,8 @@ fn tell_drum(rt: &HostRuntime) -> anyhow::Result<()> {
     tell_audit(rt, 1, &trace, &mut rule)
 }
 
-fn run(rt: &HostRuntime) -> anyhow::Result<()> {
-    tell_stairs(rt)?;
-    tell_distances(rt)?;
-    tell_drum(rt)
-}
-
 fn main(rt: HostRuntime) -> anyhow::Result<()> {
-    run(&rt)
+    tell_stairs(&rt)?;
+    tell_distances(&rt)?;
+    tell_drum(&rt)
 }

@@ -3,30 +3,38 @@
 
 #[cfg(test)]
 mod tests {
-    use frames::{Frame, Line, SideBySide};
+    use frames::{Frame, Grant, Line, SideBySide};
     use limits::{LAST_TICK, Refusal, Stair, Table};
     use records::{Request, Stroke, audit};
-    use rules::{OpenRule, Rule, stair_on, table_on};
+    use rules::{OpenRule, Rule, StairOn, TableOn};
     use std::test::Fail;
 
     #[test]
     fn bursts_and_periods_in_range(rt: HostRuntime) {
-        assert!(rt; Stair::new(255, 1).is_ok());
-        assert!(rt; Stair::new(256, 1).is_err());
-        assert!(rt; Stair::new(0, 1).is_err());
-        assert!(rt; Stair::new(1, 1_000_000_000).is_ok());
-        assert!(rt; Stair::new(1, 1_000_000_001).is_err());
-        assert!(rt; Stair::new(1, 0).is_err());
+        for (burst, period, in_range) in [
+            (255, 1, true),
+            (256, 1, false),
+            (0, 1, false),
+            (1, 1_000_000_000, true),
+            (1, 1_000_000_001, false),
+            (1, 0, false),
+        ] {
+            assert_eq!(rt;
+                Stair::new(burst, period).is_ok(),
+                in_range,
+                "({burst}, {period})"
+            );
+        }
     }
 
     #[test]
     fn a_seventeenth_distance_is_refused(rt: HostRuntime) {
         let mut table = Table::new();
         for k in 1..=16 {
-            assert!(rt; table.push(10 * k) == Ok(()));
+            assert_eq!(rt; table.push(10 * k), Ok(()));
         }
-        assert!(rt; table.push(170) == Err(Refusal::Full));
-        assert!(rt; table.push(0) == Err(Refusal::Full));
+        assert_eq!(rt; table.push(170), Err(Refusal::Full));
+        assert_eq!(rt; table.push(0), Err(Refusal::Full));
         assert_eq!(rt; table.distances().len(), 16);
         assert_eq!(rt; table.largest(), 160);
     }
@@ -35,22 +43,22 @@ mod tests {
     fn a_distance_that_falls_is_refused(rt: HostRuntime) -> Result<(), Fail> {
         let mut table = Table::new();
         table.push(30)?;
-        assert!(rt; table.push(29) == Err(Refusal::OutOfRange));
-        assert!(rt; table.push(30) == Ok(()));
-        assert!(rt; table.push(1_000_000_001) == Err(Refusal::OutOfRange));
-        assert!(rt; table.push(1_000_000_000) == Ok(()));
+        assert_eq!(rt; table.push(29), Err(Refusal::OutOfRange));
+        assert_eq!(rt; table.push(30), Ok(()));
+        assert_eq!(rt; table.push(1_000_000_001), Err(Refusal::OutOfRange));
+        assert_eq!(rt; table.push(1_000_000_000), Ok(()));
         Ok(())
     }
 
     #[test]
     fn two_strokes_at_the_last_tick(rt: HostRuntime) -> Result<(), Fail> {
-        let mut rule = stair_on(Stair::new(1, 1_000_000_000)?, OpenRule::new());
-        assert!(rt; rule.earliest(LAST_TICK) == Ok(Some(LAST_TICK)));
-        assert!(rt; rule.strike(LAST_TICK) == Ok(()));
-        assert!(rt; rule.earliest(LAST_TICK) == Ok(None));
-        assert!(rt; rule.strike(LAST_TICK) == Err(Refusal::NotAllowed));
-        assert!(rt; rule.strike(LAST_TICK + 1) == Err(Refusal::PastLastTick));
-        assert!(rt; rule.earliest(LAST_TICK + 1) == Err(Refusal::PastLastTick));
+        let mut rule = StairOn::new(Stair::new(1, 1_000_000_000)?, OpenRule::new());
+        assert_eq!(rt; rule.earliest(LAST_TICK), Ok(Some(LAST_TICK)));
+        assert_eq!(rt; rule.strike(LAST_TICK), Ok(()));
+        assert_eq!(rt; rule.earliest(LAST_TICK), Ok(None));
+        assert_eq!(rt; rule.strike(LAST_TICK), Err(Refusal::NotAllowed));
+        assert_eq!(rt; rule.strike(LAST_TICK + 1), Err(Refusal::PastLastTick));
+        assert_eq!(rt; rule.earliest(LAST_TICK + 1), Err(Refusal::PastLastTick));
         assert!(rt; rule.may(LAST_TICK + 1_000_000_000));
         assert_eq!(rt; rule.reach(), 1_000_000_000);
         Ok(())
@@ -58,14 +66,14 @@ mod tests {
 
     #[test]
     fn a_limit_on_a_rule_that_was_struck(rt: HostRuntime) -> Result<(), Fail> {
-        let mut below = stair_on(Stair::new(1, 100)?, OpenRule::new());
+        let mut below = StairOn::new(Stair::new(1, 100)?, OpenRule::new());
         below.strike(50)?;
         let mut table = Table::new();
         table.push(60)?;
-        let mut rule = table_on(table, below);
-        assert!(rt; rule.earliest(0) == Ok(Some(150)));
+        let mut rule = TableOn::new(table, below);
+        assert_eq!(rt; rule.earliest(0), Ok(Some(150)));
         rule.strike(150)?;
-        assert!(rt; rule.earliest(0) == Ok(Some(250)));
+        assert_eq!(rt; rule.earliest(0), Ok(Some(250)));
         Ok(())
     }
 
@@ -81,9 +89,10 @@ mod tests {
             },
         ];
         let stair = Stair::new(1, 10)?;
-        assert!(rt; audit(&requests, 3, &mut stair_on(stair, OpenRule::new())) == Some(2));
-        assert!(rt; audit(&requests, 4, &mut stair_on(stair, OpenRule::new())) == Some(2));
-        assert!(rt; audit(&requests, 5, &mut stair_on(stair, OpenRule::new())) == None);
+        for (bell, refused) in [(3, Some(2)), (4, Some(2)), (5, None)] {
+            let mut rule = StairOn::new(stair, OpenRule::new());
+            assert_eq!(rt; audit(&requests, bell, &mut rule), refused, "bell {bell}");
+        }
         let strokes = [
             Stroke {
                 bell: 3,
@@ -96,38 +105,39 @@ mod tests {
                 due: 10,
             },
         ];
-        assert!(rt; audit(&strokes, 3, &mut stair_on(stair, OpenRule::new())) == None);
+        let mut rule = StairOn::new(stair, OpenRule::new());
+        assert_eq!(rt; audit(&strokes, 3, &mut rule), None);
         Ok(())
     }
 
     #[test]
     fn a_thirty_third_stroke_finds_no_room(rt: HostRuntime) -> Result<(), Fail> {
-        let mut line = Line::new(stair_on(Stair::new(1, 10)?, OpenRule::new()));
+        let mut line = Line::new(StairOn::new(Stair::new(1, 10)?, OpenRule::new()));
         for k in 0..32 {
-            assert!(rt; line.request(5) == Ok(5 + 10 * k));
+            assert_eq!(rt; line.request(5), Ok(5 + 10 * k));
         }
         assert_eq!(rt; line.waiting(), 32);
-        assert!(rt; line.request(5) == Err(Refusal::Full));
+        assert_eq!(rt; line.request(5), Err(Refusal::Full));
         assert!(rt; line.take(5)?.is_some());
-        assert!(rt; line.request(5) == Ok(325));
-        assert!(rt; line.request(5) == Err(Refusal::Full));
+        assert_eq!(rt; line.request(5), Ok(325));
+        assert_eq!(rt; line.request(5), Err(Refusal::Full));
         assert_eq!(rt; line.waiting(), 32);
         Ok(())
     }
 
     #[test]
     fn the_ring_goes_round(rt: HostRuntime) -> Result<(), Fail> {
-        let mut line = Line::new(stair_on(Stair::new(3, 10)?, OpenRule::new()));
+        let mut line = Line::new(StairOn::new(Stair::new(3, 10)?, OpenRule::new()));
         for k in 0..200 {
             let asked = 10 * k;
-            assert!(rt; line.request(asked) == Ok(asked));
+            assert_eq!(rt; line.request(asked), Ok(asked));
             if k >= 20 {
-                match line.take(asked)? {
-                    Some(stroke) => assert!(rt;
-                        stroke.asked == asked - 200 && stroke.due == stroke.asked
-                    ),
-                    None => return Err(Fail::new("a stroke waits and is due")),
-                }
+                let before = asked - 200;
+                let oldest = Grant {
+                    asked: before,
+                    due: before,
+                };
+                assert_eq!(rt; line.take(asked), Ok(Some(oldest)));
             }
         }
         assert_eq!(rt; line.waiting(), 20);
@@ -136,10 +146,10 @@ mod tests {
 
     #[test]
     fn no_tick_suits_a_second_stroke_at_the_last_tick(rt: HostRuntime) -> Result<(), Fail> {
-        let mut line = Line::new(stair_on(Stair::new(1, 1_000_000_000)?, OpenRule::new()));
-        assert!(rt; line.request(LAST_TICK) == Ok(LAST_TICK));
-        assert!(rt; line.request(LAST_TICK) == Err(Refusal::NoTick));
-        assert!(rt; line.request(LAST_TICK + 1) == Err(Refusal::PastLastTick));
+        let mut line = Line::new(StairOn::new(Stair::new(1, 1_000_000_000)?, OpenRule::new()));
+        assert_eq!(rt; line.request(LAST_TICK), Ok(LAST_TICK));
+        assert_eq!(rt; line.request(LAST_TICK), Err(Refusal::NoTick));
+        assert_eq!(rt; line.request(LAST_TICK + 1), Err(Refusal::PastLastTick));
         assert_eq!(rt; line.waiting(), 1);
         Ok(())
     }
@@ -149,14 +159,14 @@ mod tests {
         let left = Line::new(OpenRule::new());
         let right = Line::new(OpenRule::new());
         let mut frame = SideBySide::new(left, right);
-        assert!(rt; frame.request(0, 1000) == Ok(1000));
-        assert!(rt; frame.request(1, 10) == Ok(10));
-        assert!(rt; frame.request(0, 999) == Err(Refusal::BeforeClock));
-        assert!(rt; frame.request(2, 1000) == Err(Refusal::NoBell));
-        assert!(rt; frame.gap(3, 0) == Err(Refusal::NoBell));
-        assert!(rt; frame.waiting(0) == Ok(1));
+        assert_eq!(rt; frame.request(0, 1000), Ok(1000));
+        assert_eq!(rt; frame.request(1, 10), Ok(10));
+        assert_eq!(rt; frame.request(0, 999), Err(Refusal::BeforeClock));
+        assert_eq!(rt; frame.request(2, 1000), Err(Refusal::NoBell));
+        assert_eq!(rt; frame.gap(3, 0), Err(Refusal::NoBell));
+        assert_eq!(rt; frame.waiting(0), Ok(1));
         assert!(rt; frame.take(1, 20)?.is_some());
-        assert!(rt; frame.gap(1, LAST_TICK) == Ok(Some(LAST_TICK - 10)));
+        assert_eq!(rt; frame.gap(1, LAST_TICK), Ok(Some(LAST_TICK - 10)));
         Ok(())
     }
 }

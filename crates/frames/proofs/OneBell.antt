@@ -1,7 +1,7 @@
 -- One bell's own run: what it answers and holds depends only on the calls that name it.
 use Rattle.std.proofs.Common.{◌≡◌, ℕ, zero, suc, List, [], ◌∷◌, take as first, Option, refl, ap, ◌∙◌, arith}
 use Rattle.std.proofs.lemmas.Bool.Decides.{nat_tests}
-use Rattle.frames.specs.Bells.{Bell, Bells, Answer, answer_of, left_of, answered, left, answers, leaves}
+use Rattle.frames.specs.Bells.{Bell, Bells, Answer, answer_of, left_of, left, answers, leaves}
 use Rattle.frames.specs.Runs.{dialogue, asked_of}
 use Rattle.frames.specs.declared.call.Action.{Action}
 use Rattle.frames.specs.declared.call.Call.{Call}
@@ -23,10 +23,10 @@ leaves_is f n [] = refl
 leaves_is f n (c ∷ cs) = let h = leaves_is (left f c.bell c.action) n cs in grind (arith, nat_tests)
 
 -- the answers to the first k calls are the first k answers
-pub first_answers : (k : ℕ) (f : Bells) (cs : List Call) → first k (answers f cs) ≡ answers f (first k cs)
+first_answers : (k : ℕ) (f : Bells) (cs : List Call) → first k (answers f cs) ≡ answers f (first k cs)
 first_answers zero f cs = refl
 first_answers (suc k) f [] = refl
-first_answers (suc k) f (c ∷ cs) = ap (λ (r : List Answer). answered f c.bell c.action ∷ r) (first_answers k (left f c.bell c.action) cs)
+first_answers (suc k) f (c ∷ cs) = let h = first_answers k (left f c.bell c.action) cs in grind arith
 
 -- so what a bell was asked and answered in the first k calls is its own run
 pub first_run : (k n : ℕ) (f : Bells) (cs : List Call) → dialogue n (first k cs) (first k (answers f cs)) ≡ ran (f n) (asked_of n (first k cs))

@@ -1,42 +1,45 @@
 -- Piles of the same limits mean the same.
-use Rattle.std.proofs.Common.{◌≡◌, ℕ, true, List, [], ◌∷◌, Some, None, Decides, Option, sym, refl, ap, ◌∙◌, inl, inr}
-use mathlib.Core.Path.{fun_ext}
+use Rattle.std.proofs.Common.{◌≡◌, ℕ, zero, suc, ◌⊎◌, IsTrue, Contains, List, [], ◌∷◌, Some, None, Option, sym, refl, ap, ◌∙◌, inl, inr, arith}
+use Rattle.std.proofs.Math.Path.{fun_ext}
 use Rattle.std.proofs.lemmas.Bool.{and_parts, and_from}
-use Rattle.std.proofs.lemmas.Bool.Decides.{same_from_decides}
 use Rattle.limits.specs.Strokes.{never_falls}
 use Rattle.limits.specs.Limits.{Limit, keeps}
 use Rattle.rules.specs.Rules.{Meaning, pile}
 use Rattle.rules.proofs.Meanings.{same_meaning}
 use Rattle.frames.specs.Bells.{Bell, Bells, fresh}
-use Rattle.frames.specs.Runs.{Holds, SameLimits, Exchanged, Rehung}
+use Rattle.frames.specs.Runs.{SameLimits, Exchanged, Rehung}
 
 -- the list never falls, and keeps each limit of the pile
-abbrev pub KeptBy : List Limit → List ℕ → Type 0
-KeptBy xs ts = (never_falls ts ≡ true) × ((x : Limit) → Holds x xs → keeps x ts ≡ true)
+abbrev KeptBy : List Limit → List ℕ → Type 0
+KeptBy xs ts = IsTrue (never_falls ts) × ((x : Limit) → Contains xs x → IsTrue (keeps x ts))
 
-kept_more : (y : Limit) (xs : List Limit) (ts : List ℕ) → keeps y ts ≡ true → KeptBy xs ts → KeptBy (y ∷ xs) ts
-kept_more y xs ts h k = (k.0, λ x. elim [ inl e ↦ ap (λ (z : Limit). keeps z ts) e ∙ h | inr i ↦ k.1 x i ])
+first_or_rest : (x y : Limit) (xs : List Limit) → Contains (y ∷ xs) x → (y ≡ x) ⊎ Contains xs x
+first_or_rest x y xs (zero, l, e) = inl e
+first_or_rest x y xs (suc k, l, e) = inr (k, omega (arith, l), e)
 
-pub pile_allows : (xs : List Limit) (ts : List ℕ) → (pile xs).allows ts ≡ true → KeptBy xs ts
-pile_allows [] ts h = (h, λ x i. elim i [ ])
-pile_allows (y ∷ xs) ts h = let both = and_parts ((pile xs).allows ts) (keeps y ts) h in kept_more y xs ts both.1 (pile_allows xs ts both.0)
+pile_allows : (xs : List Limit) (ts : List ℕ) → IsTrue ((pile xs).allows ts) → KeptBy xs ts
+pile_allows [] ts h = (h, λ x i. absurd (omega (arith, i.1)))
+pile_allows (y ∷ xs) ts h =
+    let both = and_parts ((pile xs).allows ts) (keeps y ts) h in
+    let kept = pile_allows xs ts both.0 in
+    (kept.0, λ x i. elim (first_or_rest x y xs i) [ inl e ↦ rw (← e) both.1 | inr j ↦ kept.1 x j ])
 
-pub allows_pile : (xs : List Limit) (ts : List ℕ) → KeptBy xs ts → (pile xs).allows ts ≡ true
+allows_pile : (xs : List Limit) (ts : List ℕ) → KeptBy xs ts → IsTrue ((pile xs).allows ts)
 allows_pile [] ts h = h.0
-allows_pile (y ∷ xs) ts h = and_from ((pile xs).allows ts) (keeps y ts) (allows_pile xs ts (h.0, λ x i. h.1 x (inr i))) (h.1 y (inl refl))
+allows_pile (y ∷ xs) ts h =
+    let rest = allows_pile xs ts (h.0, λ x i. h.1 x (suc i.0, omega (arith, i.1), i.2)) in
+    and_from ((pile xs).allows ts) (keeps y ts) rest (h.1 y (zero, omega arith, refl))
 
-pub pile_last : (xs : List Limit) → (pile xs).last ≡ None
+pile_last : (xs : List Limit) → (pile xs).last ≡ None
 pile_last [] = refl
 pile_last (x ∷ xs) = pile_last xs
 
-pub same_pile : (xs ys : List Limit) → SameLimits xs ys → pile xs ≡ pile ys
-same_pile xs ys s = same_meaning (pile xs) (pile ys) (pile_last xs ∙ sym (pile_last ys)) (λ ts. same_from_decides ((pile xs).allows ts) ((pile ys).allows ts) (there ts) (here ts))
-  where
-    here : (ts : List ℕ) → Decides ((pile ys).allows ts) (KeptBy ys ts)
-    here ts = (pile_allows ys ts, allows_pile ys ts)
+-- what a pile allows is allowed by a pile of no other limits
+passes : (xs ys : List Limit) → ((x : Limit) → Contains ys x → Contains xs x) → (ts : List ℕ) → IsTrue ((pile xs).allows ts) → IsTrue ((pile ys).allows ts)
+passes xs ys within ts h = let kept = pile_allows xs ts h in allows_pile ys ts (kept.0, λ x i. kept.1 x (within x i))
 
-    there : (ts : List ℕ) → Decides ((pile xs).allows ts) (KeptBy ys ts)
-    there ts = (λ h. let k : KeptBy xs ts = pile_allows xs ts h in (k.0, λ x i. k.1 x (s.1 x i)), λ k. allows_pile xs ts (k.0, λ x i. k.1 x (s.0 x i)))
+same_pile : (xs ys : List Limit) → SameLimits xs ys → pile xs ≡ pile ys
+same_pile xs ys s = same_meaning (pile xs) (pile ys) (pile_last xs ∙ sym (pile_last ys)) (λ ts. grind (arith, passes xs ys s.1 ts, passes ys xs s.0 ts))
 
 exchanged : (o p : Option Bell) → Exchanged o p → p ≡ o
 exchanged o p (inl e) = sym e

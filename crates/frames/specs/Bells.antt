@@ -1,5 +1,5 @@
 -- A bell's state, the four calls on a frame of bells, and what each answers and leaves.
-use Rattle.std.specs.Prelude.{◌≡◌, ℕ, ◌-◌, ◌/◌, ◌%◌, cond, List, [], ◌∷◌, ◌++◌, length, Some, None, Ok, Err, Option, Result, ◌==◌, nat_le, nat_lt}
+use Rattle.std.specs.Prelude.{◌≡◌, ℕ, ◌-◌, ◌/◌, ◌%◌, if◌then◌else◌, List, [], ◌∷◌, ◌++◌, length, Some, None, Ok, Err, Option, Result, ◌==◌, nat_le, nat_lt}
 use Rattle.limits.specs.Strokes.{last_tick}
 use Rattle.rules.specs.Rules.{Meaning, Order, Early, struck, earliest}
 use Rattle.frames.specs.declared.grant.Grant.{Grant}
@@ -34,10 +34,15 @@ Outcome = Answer × Bell
 
 -- a tick that a call brings, with the bell's clock: past the last tick it is refused by 2, before the clock by 11
 abbrev pub timely : ℕ → ℕ → Result (Unit {0}) ℕ
-timely clock t = cond (nat_lt last_tick t) (Err 2) (cond (nat_lt t clock) (Err 11) (Ok tt))
+timely clock t = if nat_lt last_tick t then Err 2 else if nat_lt t clock then Err 11 else Ok tt
+
+-- where it is refused, that is the answer, and the bell stays as it was
+abbrev pub outcome_unless_refused : Result (Unit {0}) ℕ → Bell → Outcome → Outcome
+outcome_unless_refused (Ok _) b o = o
+outcome_unless_refused (Err k) b o = (Err k, b)
 
 abbrev pub in_time : Bell → ℕ → Outcome → Outcome
-in_time b t o = elim (timely b.clock t) [ Ok _ ↦ o | Err k ↦ (Err k, b) ]
+in_time b t o = outcome_unless_refused (timely b.clock t) b o
 
 -- a request at t that finds no tick is refused by 13; else it is due at the tick found, and the stroke joins the end of those that wait
 abbrev pub granted_at : Bell → ℕ → Option ℕ → Outcome
@@ -46,7 +51,7 @@ granted_at b t (Some d) = (Ok (Due d), record { rule = struck d b.rule; clock = 
 
 -- where as many strokes wait as can, it is refused by 12
 abbrev pub requested : Bell → ℕ → Outcome
-requested b t = in_time b t (cond (nat_le most_waiting (length b.waiting)) (Err 12, b) (granted_at b t (earliest b.rule t)))
+requested b t = in_time b t (if nat_le most_waiting (length b.waiting) then (Err 12, b) else granted_at b t (earliest b.rule t))
 
 -- the first of them, if there is one
 abbrev pub oldest : List Grant → Option Grant
@@ -56,9 +61,9 @@ oldest (s ∷ ss) = Some s
 -- a take at t hands out the oldest stroke that waits, if it is due by then
 abbrev pub handed_at : Bell → ℕ → List Grant → Outcome
 handed_at b t [] = (Ok (Taken None), record { rule = b.rule; clock = t; waiting = []; handed = b.handed })
-handed_at b t (s ∷ ss) = cond (nat_le s.due t)
-    (Ok (Taken (Some s)), record { rule = b.rule; clock = t; waiting = ss; handed = Some s.due })
-    (Ok (Taken None), record { rule = b.rule; clock = t; waiting = s ∷ ss; handed = b.handed })
+handed_at b t (s ∷ ss) = if nat_le s.due t
+    then (Ok (Taken (Some s)), record { rule = b.rule; clock = t; waiting = ss; handed = Some s.due })
+    else (Ok (Taken None), record { rule = b.rule; clock = t; waiting = s ∷ ss; handed = b.handed })
 
 -- the ticks from the due tick last handed out to t
 abbrev pub gap_since : ℕ → Option ℕ → Option ℕ
@@ -89,7 +94,7 @@ abbrev pub answered : Bells → ℕ → Action → Answer
 answered f n x = answer_of (f n) x
 
 abbrev pub left : Bells → ℕ → Action → Bells
-left f n x k = cond (k == n) (left_of (f k) x) (f k)
+left f n x k = if k == n then left_of (f k) x else f k
 
 -- the same of a list of calls
 abbrev pub answers : Bells → List Call → List Answer
@@ -102,11 +107,11 @@ leaves f (c ∷ cs) = leaves (left f c.bell c.action) cs
 
 -- a line is a frame with bell 0 alone
 abbrev pub alone : Bell → Bells
-alone b n = cond (n == 0) (Some b) None
+alone b n = if n == 0 then Some b else None
 
 -- two frames side by side: an even number is a bell of the left one, an odd number of the right one
 abbrev pub beside : Bells → Bells → Bells
-beside l r n = cond (n % 2 == 0) (l (n / 2)) (r ((n - 1) / 2))
+beside l r n = if n % 2 == 0 then l (n / 2) else r ((n - 1) / 2)
 
 -- something holds of every bell of a frame
 abbrev pub Every : (Bell → Type 0) → Bells → Type 0

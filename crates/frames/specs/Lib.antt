@@ -1,3 +1,4 @@
+pub mod Rings
 pub mod Bells
 pub mod Reaches
 pub mod Runs

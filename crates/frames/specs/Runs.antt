@@ -1,12 +1,12 @@
 -- What holds of every list of calls on a fresh frame.
-use Rattle.std.specs.Prelude.{◌≡◌, ℕ, ◌+◌, true, cond, ◌⊎◌, List, [], ◌∷◌, ◌++◌, length, take as first, Some, None, Ok, Err, Option, ◌==◌}
+use Rattle.std.specs.Prelude.{◌≡◌, ℕ, ◌+◌, IsTrue, if◌then◌else◌, ◌⊎◌, List, [], ◌∷◌, ◌++◌, length, map, Contains, take as first, Some, None, Ok, Option, ◌==◌}
 use Rattle.limits.specs.Strokes.{NoLater}
 use Rattle.limits.specs.Limits.{Limit}
 use Rattle.rules.specs.Rules.{Meaning, pile}
 use Rattle.frames.specs.Bells.{Bell, Bells, fresh, Answer, answered, answers, leaves}
 use Rattle.frames.specs.declared.grant.Grant.{Grant}
 use Rattle.frames.specs.declared.call.Action.{Action}
-use Rattle.frames.specs.declared.call.Action.TheVariants.{Request, Take, Gap, Waiting}
+use Rattle.frames.specs.declared.call.Action.TheVariants.{Request, Gap, Waiting}
 use Rattle.frames.specs.declared.call.Call.{Call}
 use Rattle.frames.specs.declared.call.Reply.TheVariants.{Due, Taken, Since, Waits}
 
@@ -14,7 +14,7 @@ use Rattle.frames.specs.declared.call.Reply.TheVariants.{Due, Taken, Since, Wait
 abbrev pub dialogue : ℕ → List Call → List Answer → List (Action × Answer)
 dialogue n [] rs = []
 dialogue n (c ∷ cs) [] = []
-dialogue n (c ∷ cs) (r ∷ rs) = cond (n == c.bell) ((c.action, r) ∷ dialogue n cs rs) (dialogue n cs rs)
+dialogue n (c ∷ cs) (r ∷ rs) = if n == c.bell then (c.action, r) ∷ dialogue n cs rs else dialogue n cs rs
 
 -- the same after k calls
 abbrev pub so_far : ℕ → ℕ → List Call → List Answer → List (Action × Answer)
@@ -23,21 +23,11 @@ so_far k n cs rs = dialogue n (first k cs) (first k rs)
 -- the stroke that one call was granted, and the stroke that it was handed
 abbrev pub grant : Action → Answer → List Grant
 grant (Request t) (Ok (Due d)) = record { asked = t; due = d } ∷ []
-grant (Request t) (Ok (Taken s)) = []
-grant (Request t) (Ok (Since g)) = []
-grant (Request t) (Ok (Waits k)) = []
-grant (Request t) (Err k) = []
-grant (Take t) r = []
-grant (Gap t) r = []
-grant Waiting r = []
+grant _ _ = []
 
 abbrev pub handing : Answer → List Grant
 handing (Ok (Taken (Some s))) = s ∷ []
-handing (Ok (Taken None)) = []
-handing (Ok (Due d)) = []
-handing (Ok (Since g)) = []
-handing (Ok (Waits k)) = []
-handing (Err k) = []
+handing _ = []
 
 -- the strokes that the bell granted, and those that it handed out, in order
 abbrev pub granted : List (Action × Answer) → List Grant
@@ -49,16 +39,14 @@ handed [] = []
 handed (p ∷ ps) = handing p.1 ++ handed ps
 
 abbrev pub asked_ticks : List Grant → List ℕ
-asked_ticks [] = []
-asked_ticks (s ∷ ss) = s.asked ∷ asked_ticks ss
+asked_ticks ss = map (λ (s : Grant). s.asked) ss
 
 abbrev pub due_ticks : List Grant → List ℕ
-due_ticks [] = []
-due_ticks (s ∷ ss) = s.due ∷ due_ticks ss
+due_ticks ss = map (λ (s : Grant). s.due) ss
 
 -- a timing: one number for each stroke asked for, none before it was asked, and the rule as hung allows them all
 abbrev pub Timing : Meaning → List ℕ → List ℕ → Type 0
-Timing hung asked ts = NoLater asked ts × (hung.allows ts ≡ true)
+Timing hung asked ts = NoLater asked ts × IsTrue (hung.allows ts)
 
 -- the due ticks are a timing, and every other timing has each stroke at the same tick or later
 pub record Earliest (hung : Meaning) (asked due : List ℕ) : Type 0 where
@@ -66,12 +54,8 @@ pub record Earliest (hung : Meaning) (asked due : List ℕ) : Type 0 where
   pub least : (ts : List ℕ) → Timing hung asked ts → NoLater due ts
 
 -- each limit of either list is in the other, by its numbers
-abbrev pub Holds : Limit → List Limit → Type 0
-Holds x [] = ⊥
-Holds x (y ∷ ys) = (x ≡ y) ⊎ Holds x ys
-
 abbrev pub SameLimits : List Limit → List Limit → Type 0
-SameLimits xs ys = ((x : Limit) → Holds x xs → Holds x ys) × ((x : Limit) → Holds x ys → Holds x xs)
+SameLimits xs ys = ((x : Limit) → Contains xs x → Contains ys x) × ((x : Limit) → Contains ys x → Contains xs x)
 
 -- the second frame has at each number what the first has, or a pile of the same limits in the place of an unstruck pile
 abbrev pub Exchanged : Option Bell → Option Bell → Type 0
@@ -83,7 +67,7 @@ Rehung f g = (n : ℕ) → Exchanged (f n) (g n)
 -- for every number, with a bell or without, the same calls that name it, in the same order
 abbrev pub asked_of : ℕ → List Call → List Action
 asked_of n [] = []
-asked_of n (c ∷ cs) = cond (n == c.bell) (c.action ∷ asked_of n cs) (asked_of n cs)
+asked_of n (c ∷ cs) = if n == c.bell then c.action ∷ asked_of n cs else asked_of n cs
 
 abbrev pub Rearranged : List Call → List Call → Type 0
 Rearranged cs ds = (n : ℕ) → asked_of n cs ≡ asked_of n ds
@@ -101,9 +85,8 @@ last_due before (s ∷ ss) = last_due (Some s.due) ss
 -- a gap at t, whole: it reaches back to the due tick last handed out, and there is none where nothing was handed out
 abbrev pub ReachesBack : ℕ → Option ℕ → Option ℕ → Type 0
 ReachesBack t None None = Unit {0}
-ReachesBack t None (Some g) = ⊥
-ReachesBack t (Some d) None = ⊥
 ReachesBack t (Some d) (Some g) = d + g ≡ t
+ReachesBack t _ _ = ⊥
 
 -- a run: the frame, the calls, their answers, and the frame that is left. A step is the number k of calls done
 pub record Governed (f : Bells) (cs : List Call) (rs : List Answer) (g : Bells) : Type 0 where

@@ -1,11 +1,11 @@
 -- What the values of the code stand for: lines by their bell, frames by their bells.
 use Rattle.std.specs.Prelude.{List}
-use Rattle.rules.specs.Rings.{in_ring}
 use Rattle.rules.specs.Rules.{Meaning}
 use Rattle.frames.specs.Bells.{Bell, Bells, alone, beside}
+use Rattle.frames.specs.Rings.{in_ring}
 use Rattle.frames.specs.declared.grant.Grant.{Grant}
-use Rattle.frames.specs.declared.queue.Queue.{Queue}
 use Rattle.frames.specs.declared.line.Line.{Line}
+use Rattle.frames.specs.declared.queue.Queue.{Queue}
 use Rattle.frames.specs.declared.side_by_side.SideBySide.{SideBySide}
 
 -- the strokes that wait, the oldest first

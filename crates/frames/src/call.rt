@@ -3,7 +3,7 @@ use crate::grant::Grant;
 use limits::Refusal;
 
 // What is asked of a bell.
-#[derive(Clone, Copy)]
+#[derive(Clone, Copy, PartialEq, Eq, Debug)]
 pub enum Action {
     // A stroke, at this tick or as soon after it as the bell's rule allows.
     Request(u64),
@@ -16,14 +16,14 @@ pub enum Action {
 }
 
 // A bell, by its number, and what is asked of it.
-#[derive(Clone, Copy)]
+#[derive(Clone, Copy, PartialEq, Eq, Debug)]
 pub struct Call {
     pub bell: u64,
     pub action: Action,
 }
 
 // What a bell replies, if it does not refuse.
-#[derive(Clone, Copy)]
+#[derive(Clone, Copy, PartialEq, Eq, Debug)]
 pub enum Reply {
     // The stroke was granted, and is due at this tick.
     Due(u64),

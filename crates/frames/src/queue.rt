@@ -1,26 +1,30 @@
 // The strokes that wait at a bell, the oldest first. They stand in a ring: a place that is left serves again.
-ghost use Rattle.std.specs.Prelude.{◌≡◌, ◌<◌, ◌≤◌, [], ◌∷◌, ◌++◌, length, drop, nat_le};
-ghost use Rattle.rules.specs.Rings.{in_ring};
+//
+// The places and their count stand in the value itself, since no call on a bell may ask for memory.
+ghost use Rattle.std.specs.Prelude.{◌≡◌, ◌<◌, ◌≤◌, ◌↔◌, [], ◌∷◌, ◌++◌, length, drop, IsTrue};
 ghost use Rattle.frames.specs.Bells.{oldest};
+ghost use Rattle.frames.specs.Rings.{IsRing};
+ghost use Rattle.frames.specs.declared.queue.TheConstants.{MOST_WAITING};
 
 use crate::grant::Grant;
 
 // The most strokes that wait at one bell.
 pub const MOST_WAITING: usize = 32;
 
-#[derive(Clone, Copy)]
-pub struct Queue {
+// It is no `Model`: what a refusal leaves is the same value, places and all, and not only the same strokes.
+#[derive(Debug, Drop)]
+pub(crate) struct Queue {
     places: [Grant; MOST_WAITING],
     first: usize,
     count: usize,
-    ghost long: { length places ≡ 32 },
-    ghost inside: { first < 32 },
-    ghost few: { count ≤ 32 },
+    ghost ring: { IsRing MOST_WAITING places first count },
 }
 
 impl Queue {
+    ghost use Rattle.frames.specs.Values.{in_queue};
+
     pub(crate) fn new() -> Queue
-        ensures { in_ring result.places result.first result.count ≡ [] }
+        ensures { in_queue result ≡ [] }
     {
         Queue {
             places: [Grant { asked: 0, due: 0 }; MOST_WAITING],
@@ -31,32 +35,29 @@ impl Queue {
 
     // How many wait.
     pub(crate) fn len(&self) -> usize
-        ensures { result ≡ length (in_ring self.now.places self.now.first self.now.count) }
+        ensures { result ≡ length (in_queue self.now) }
     {
         self.count
     }
 
     // Whether as many wait as can.
     pub(crate) fn is_full(&self) -> bool
-        ensures { result ≡ nat_le 32 (length (in_ring self.now.places self.now.first self.now.count)) }
+        ensures { IsTrue result ↔ (MOST_WAITING ≤ length (in_queue self.now)) }
     {
         self.len() >= MOST_WAITING
     }
 
     // The oldest, or none.
     pub(crate) fn front(&self) -> Option<Grant>
-        ensures { result ≡ oldest (in_ring self.now.places self.now.first self.now.count) }
+        ensures { result ≡ oldest (in_queue self.now) }
     {
-        if self.count == 0 {
-            return None;
-        }
-        Some(self.places[self.first])
+        (self.count > 0).then_some(self.places[self.first])
     }
 
     // One more, behind the others.
     pub(crate) fn push(&mut self, grant: Grant)
-        requires { length (in_ring self.old.places self.old.first self.old.count) < 32 }
-        ensures { in_ring self.new.places self.new.first self.new.count ≡ in_ring self.old.places self.old.first self.old.count ++ (grant ∷ []) }
+        requires { length (in_queue self.old) < MOST_WAITING }
+        ensures { in_queue self.new ≡ in_queue self.old ++ grant ∷ [] }
     {
         let end = (self.first + self.count) % MOST_WAITING;
         self.places[end] = grant;
@@ -65,7 +66,7 @@ impl Queue {
 
     // The oldest leaves, if there is one.
     pub(crate) fn pop(&mut self)
-        ensures { in_ring self.new.places self.new.first self.new.count ≡ drop 1 (in_ring self.old.places self.old.first self.old.count) }
+        ensures { in_queue self.new ≡ drop 1 (in_queue self.old) }
     {
         if self.count > 0 {
             self.first = (self.first + 1) % MOST_WAITING;

@@ -8,7 +8,7 @@ use crate::call::{Action, Answer, Call, Reply};
 use crate::frame::Frame;
 use std::alloc::{AllocError, Global};
 
-// Performs one call.
+// Performs one call. Calls are data, which a list holds and a program prints.
 pub fn perform<F: Frame>(frame: &mut F, call: Call) -> Answer
     ensures answer { told result ≡ answered (F.Frame.bells frame.old) call.bell call.action }
     ensures left { F.Frame.bells frame.new ≡ left (F.Frame.bells frame.old) call.bell call.action }
@@ -16,10 +16,10 @@ pub fn perform<F: Frame>(frame: &mut F, call: Call) -> Answer
 {
     let bell = call.bell;
     match call.action {
-        Action::Request(t) => Ok(Reply::Due(frame.request(bell, t)?)),
-        Action::Take(t) => Ok(Reply::Taken(frame.take(bell, t)?)),
-        Action::Gap(t) => Ok(Reply::Since(frame.gap(bell, t)?)),
-        Action::Waiting => Ok(Reply::Waits(frame.waiting(bell)?)),
+        Action::Request(t) => frame.request(bell, t).map(Reply::Due),
+        Action::Take(t) => frame.take(bell, t).map(Reply::Taken),
+        Action::Gap(t) => frame.gap(bell, t).map(Reply::Since),
+        Action::Waiting => frame.waiting(bell).map(Reply::Waits),
     }
 }
 

@@ -1,6 +1,7 @@
 -- Lists that never fall, and the largest of a list.
-use Rattle.std.proofs.Common.{◌≡◌, ℕ, ◌+◌, ◌<◌, ◌≤◌, max, true, ◌&&◌, leb, List, [], ◌∷◌, ◌++◌, length, get_or, take, sym, ap, ◌∙◌, arith}
-use Rattle.std.proofs.lemmas.List.{take_more}
+use Rattle.std.proofs.Common.{◌≡◌, ℕ, ◌-◌, max, true, ◌&&◌, leb, List, [], ◌∷◌, ◌++◌, length, Some, refl, ap, ◌∙◌, arith}
+use Rattle.std.specs.List.{slice_get}
+use Rattle.std.specs.Option.{unwrap_or}
 use Rattle.std.proofs.lemmas.Bool.Decides.{nat_tests}
 use Rattle.limits.specs.Strokes.{rises_from, never_falls}
 use Rattle.limits.specs.Limits.{largest}
@@ -18,11 +19,10 @@ pub rising_push : (ds : List ℕ) (d : ℕ) → never_falls (ds ++ (d ∷ [])) �
 rising_push ds d = let e = rises_push 0 ds d in let z : max 0 (largest ds) ≡ largest ds = omega arith in e ∙ ap (λ (x : ℕ). never_falls ds && leb x d) z
 
 -- so the last of a rising list is its largest
-pub largest_last : (xs : List ℕ) (i : ℕ) → i < length xs → never_falls (take (i + 1) xs) ≡ true → largest (take (i + 1) xs) ≡ get_or xs i 0
-largest_last xs i l h =
-    let e = take_more xs i 0 l in
-    let rise : never_falls (take i xs ++ (get_or xs i 0 ∷ [])) ≡ true = ap never_falls (sym e) ∙ h in
-    let both = rising_push (take i xs) (get_or xs i 0) in
-    let top = largest_push (take i xs) (get_or xs i 0) in
-    let bound : largest (take i xs) ≤ get_or xs i 0 = grind (arith, nat_tests) in
-    ap largest e ∙ top ∙ omega arith
+last_of : (x : ℕ) (xs : List ℕ) → rises_from x xs ≡ true → slice_get (x ∷ xs) (length xs) ≡ Some (largest (x ∷ xs))
+last_of x [] h = grind arith
+last_of x (y ∷ ys) h = let rest = last_of y ys in grind (arith, nat_tests)
+
+pub largest_last : (xs : List ℕ) → never_falls xs ≡ true → unwrap_or (slice_get xs (length xs - 1)) 0 ≡ largest xs
+largest_last [] h = refl
+largest_last (x ∷ xs) h = let last = last_of x xs in grind (arith, nat_tests)

@@ -3,4 +3,6 @@ pub mod Limits
 pub mod Refusals
 pub mod Making
 pub mod Jitter
+pub mod Rows
+pub mod RowLaws
 pub mod Values

@@ -1,11 +1,11 @@
 -- The limits on a hammer: what a stair and a table ask of a list of strokes.
-use Rattle.std.specs.Prelude.{◌≡◌, ℕ, zero, suc, ◌+◌, ◌-◌, ◌/◌, ◌<◌, ◌≤◌, max, Bool, true, cond, ◌&&◌, List, [], ◌∷◌, reverse, length, nat_le, slice_index}
+use Rattle.std.specs.Prelude.{◌≡◌, ℕ, zero, suc, ◌+◌, ◌-◌, ◌/◌, ◌<◌, ◌≤◌, max, Bool, true, ◌&&◌, List, [], ◌∷◌, reverse, length, nat_le, slice_index, if◌then◌else◌}
 use Rattle.limits.specs.Strokes.{never_falls}
 
 -- how many strokes of the list are in the window that begins with tick a and ends with tick b; both ticks count
 abbrev pub within : ℕ → ℕ → List ℕ → ℕ
 within a b [] = 0
-within a b (t ∷ ts) = cond (nat_le a t && nat_le t b) 1 0 + within a b ts
+within a b (t ∷ ts) = (if nat_le a t && nat_le t b then 1 else 0) + within a b ts
 
 -- a stair of burst n and period p: the list never falls, and every closed window holds at most n strokes and one more for each whole period in its length
 abbrev pub KeepsStair : ℕ → ℕ → List ℕ → Type 0

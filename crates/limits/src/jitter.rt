@@ -9,7 +9,7 @@ use crate::stair::Stair;
 use crate::tick::LONGEST;
 
 // The two stairs of a jittered order. A keyboard or a chime drum that keeps the order keeps both.
-#[derive(Clone, Copy)]
+#[derive(Clone, Copy, Debug, PartialEq, Eq)]
 pub struct JitteredOrder {
     first: Stair,
     second: Stair,
@@ -20,7 +20,7 @@ impl JitteredOrder {
     pub fn new(period: u64, jitter: u64, distance: u64) -> Result<JitteredOrder, Refusal>
         ensures { told_by jitter_of result ≡ jittered period jitter distance }
     {
-        if period < 1 || period > LONGEST || jitter > LONGEST || distance > LONGEST {
+        if !(1..=LONGEST).contains(&period) || jitter > LONGEST || distance > LONGEST {
             return Err(Refusal::OutOfRange);
         }
         let first = Stair::new(jitter.div_ceil(period) + 1, period)?;

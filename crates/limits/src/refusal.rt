@@ -8,19 +8,19 @@ use std::fmt;
 #[derive(Clone, Copy, PartialEq, Eq, Debug)]
 pub enum Refusal {
     // No bell has that number.
-    NoBell,
+    NoBell = 1,
     // A tick past the last one.
-    PastLastTick,
+    PastLastTick = 2,
     // One of the numbers of a limit is not in its range, or a table's distances get smaller.
-    OutOfRange,
+    OutOfRange = 3,
     // A tick before the bell's clock.
-    BeforeClock,
+    BeforeClock = 11,
     // No room: a table has its sixteen distances, or thirty-two strokes wait at a bell.
-    Full,
+    Full = 12,
     // No tick up to the last one suits.
-    NoTick,
+    NoTick = 13,
     // A rule blocks the stroke.
-    NotAllowed,
+    NotAllowed = 14,
 }
 
 impl Refusal {
@@ -28,15 +28,7 @@ impl Refusal {
     pub fn number(self) -> u64
         ensures { result ≡ number self }
     {
-        match self {
-            Refusal::NoBell => 1,
-            Refusal::PastLastTick => 2,
-            Refusal::OutOfRange => 3,
-            Refusal::BeforeClock => 11,
-            Refusal::Full => 12,
-            Refusal::NoTick => 13,
-            Refusal::NotAllowed => 14,
-        }
+        self as u64
     }
 
     // The refusal in words, as it is printed.
@@ -55,6 +47,7 @@ impl Refusal {
     }
 }
 
+// The words have a contract of their own; this writes them.
 impl fmt::Display for Refusal {
     ghost output = { λ r. Some (words r) };
 

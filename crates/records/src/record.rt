@@ -1,4 +1,5 @@
-// What an audit reads of a record: a bell and a tick. The records themselves belong to the caller.
+// What an audit reads of a record: a bell and a tick. The records themselves belong to the caller, in whatever struct they
+// stand; each kind says which of its fields are the two.
 ghost use Rattle.std.specs.Prelude.{◌≡◌, ℕ};
 
 pub trait Record {

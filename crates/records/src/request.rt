@@ -1,7 +1,7 @@
 // The record of a request: the bell that was asked for, and the tick.
 use crate::record::Record;
 
-#[derive(Clone, Copy)]
+#[derive(Clone, Copy, Debug, PartialEq, Eq)]
 pub struct Request {
     pub bell: u64,
     pub tick: u64,

@@ -1,7 +1,7 @@
 // The record of a stroke: its bell, when it was asked for, and when it was due. An audit reads the latter.
 use crate::record::Record;
 
-#[derive(Clone, Copy)]
+#[derive(Clone, Copy, Debug, PartialEq, Eq)]
 pub struct Stroke {
     pub bell: u64,
     pub asked: u64,

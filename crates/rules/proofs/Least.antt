@@ -1,13 +1,10 @@
 -- The earliest tick of a rule is the least that may be struck, and what that is where a layer bars all ticks before some number.
-use Rattle.std.proofs.Common.{◌≡◌, ℕ, zero, suc, ◌+◌, ◌-◌, ◌<◌, ◌≤◌, max, Bool, true, false, leb, Some, None, Ok, Err, Option, Result, refl, ap, inl, inr, arith, MatchOption, MatchResult}
+use Rattle.std.proofs.Common.{◌≡◌, ℕ, zero, suc, ◌+◌, ◌-◌, ◌<◌, ◌≤◌, max, Bool, true, false, leb, Some, None, Option, refl, ap, inl, inr, arith, MatchOption}
 use Rattle.std.proofs.lemmas.Bool.{both_ways, cases_order}
 use Rattle.std.proofs.lemmas.Bool.Decides.{nat_tests}
 use Rattle.limits.specs.Strokes.{last_tick}
 use Rattle.rules.specs.Rules.{Meaning, may, Least, first_passing, earliest}
 use Rattle.rules.specs.Layers.{layered}
-use Rattle.rules.specs.Calls.{earliest_from}
-use Rattle.limits.specs.Refusals.{told}
-use Rattle.limits.specs.declared.refusal.Refusal.{Refusal}
 
 -- the first of the k numbers from t on that passes, or none of them does
 abbrev First : (ℕ → Bool) → ℕ → ℕ → Option ℕ → Type 0
@@ -76,8 +73,3 @@ earliest_open x t m b l = least_earliest m t (Some (max t x)) (
 -- or none, if x lies past the last tick
 pub earliest_shut : (x t : ℕ) (m : Meaning) → ((u : ℕ) → may m u ≡ leb x u) → last_tick < max t x → t ≤ last_tick → earliest m t ≡ None
 earliest_shut x t m b l tl = least_earliest m t None (λ u tu ul. let e = b u in grind (arith, nat_tests))
-
--- what an answer says
-pub answer_least : (m : Meaning) (t : ℕ) (r : Result (Option ℕ) Refusal) → told r ≡ earliest_from m t → MatchResult r (Least m t) (λ _. last_tick < t)
-answer_least m t (Ok d) e = let same : earliest m t ≡ d = grind (arith, nat_tests) in rw (← same) (earliest_is m t)
-answer_least m t (Err x) e = grind (arith, nat_tests)

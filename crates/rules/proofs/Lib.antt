@@ -1,6 +1,4 @@
 pub mod Meanings
-pub mod Rings
-mod Shifts
 pub mod Least
 pub mod Laying
 mod Stairs

@@ -1,18 +1,15 @@
 -- A stair's one number: what it bars, how large it gets, and what an accepted stroke leaves; and a stair as laid is the layer at its start.
-use Rattle.std.proofs.Common.{◌≡◌, ℕ, ◌+◌, ◌-◌, ◌*◌, ◌≤◌, max, leb, refl, mul-le-mul_right, mul-le-mul, arith}
+use Rattle.std.proofs.Common.{◌≡◌, ℕ, ◌+◌, ◌*◌, ◌≤◌, max, leb, refl, mul-le-mul_right, arith}
 use Rattle.std.proofs.lemmas.Bool.Decides.{nat_tests}
-use Rattle.limits.specs.Strokes.{longest}
 use Rattle.limits.specs.Limits.{stair, keeps}
 use Rattle.rules.specs.Rules.{Meaning, may, struck, laid, Order}
 use Rattle.rules.specs.Layers.{afford, layered, stair_own}
 use Rattle.rules.proofs.Walks.{stair_walk}
 use Rattle.rules.proofs.Meanings.{same_meaning, same_and}
 
-pub stair_opens : (n p w t : ℕ) → may (stair_own n p w) t ≡ leb (w + p - n * p) t
-stair_opens n p w t = grind (arith, nat_tests)
-
-pub span_bound : (n p : ℕ) → n ≤ 255 → p ≤ longest → n * p ≤ 255000000000
-span_bound n p a b = mul-le-mul a b
+-- what a tick that is not barred is worth
+pub stair_free : (n p w x t : ℕ) → ((u : ℕ) → may (stair_own n p w) u ≡ leb x u) → x ≤ t → w + p ≤ t + n * p
+stair_free n p w x t opens h = let e = opens t in grind (arith, nat_tests)
 
 -- the number after an accepted stroke stays that close to the stroke
 pub stair_close : (n p w t : ℕ) → 1 ≤ n → w + p ≤ t + n * p → max t w + p ≤ t + n * p

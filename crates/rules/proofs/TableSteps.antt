@@ -1,5 +1,5 @@
 -- A table's past: what it bars, and what an accepted stroke leaves; and a table as laid is the layer at its start.
-use Rattle.std.proofs.Common.{◌≡◌, ℕ, zero, suc, ◌+◌, ◌<◌, ◌≤◌, min, max, ◌&&◌, leb, List, [], ◌∷◌, length, get_or, take, drop, Some, sym, refl, ap, ◌∙◌, arith}
+use Rattle.std.proofs.Common.{◌≡◌, ℕ, zero, suc, ◌+◌, ◌≤◌, min, max, ◌&&◌, leb, List, [], ◌∷◌, length, take, Some, sym, refl, ap, ◌∙◌, arith}
 use Rattle.std.proofs.lemmas.List.{take-take}
 use Rattle.std.proofs.lemmas.Bool.Decides.{nat_tests}
 use Rattle.limits.specs.Limits.{table, keeps, largest, largest_sum}
@@ -15,6 +15,10 @@ spaced_opens (d ∷ ds) (x ∷ xs) t = let more = spaced_opens ds xs t in grind 
 
 pub table_opens : (given past : List ℕ) (t : ℕ) → may (table_own given past) t ≡ leb (largest_sum given past) t
 table_opens given past t = let e = spaced_opens given past t in grind arith
+
+-- so does every other number that tells the same of it
+pub table_free : (given past : List ℕ) (x t : ℕ) → ((u : ℕ) → may (table_own given past) u ≡ leb x u) → x ≤ t → largest_sum given past ≤ t
+table_free given past x t opens h = let e = opens t in let f = table_opens given past t in grind (arith, nat_tests)
 
 -- only as many strokes count as there are distances
 spaced_take : (ds xs : List ℕ) (t : ℕ) → spaced ds (take (length ds) xs) t ≡ spaced ds xs t
@@ -63,27 +67,8 @@ table_laid given m o =
     same_meaning (layered (table_own given []) m) (laid (table given) m) refl
     (λ ts. same_and (m.allows ts) (keep_apart given [] ts) (keeps (table given) ts) (λ h. let rise = o.rising ts h in let walk = table_walk given ts rise in grind arith))
 
--- the largest of a list is no smaller than each of it
-pub largest_at : (xs : List ℕ) (k : ℕ) → k < length xs → get_or xs k 0 ≤ largest xs
-largest_at [] k l = absurd (omega arith)
-largest_at (x ∷ xs) zero l = omega arith
-largest_at (x ∷ xs) (suc k) l = let rest = largest_at xs k (omega arith) in omega arith
-
--- the largest sum, place by place
-pub largest_sum_more : (ds xs : List ℕ) (k : ℕ) → k < length ds → k < length xs → largest_sum (drop k ds) (drop k xs) ≡ max (get_or ds k 0 + get_or xs k 0) (largest_sum (drop (suc k) ds) (drop (suc k) xs))
-largest_sum_more [] xs k ld lx = absurd (omega arith)
-largest_sum_more (d ∷ ds) [] k ld lx = absurd (omega arith)
-largest_sum_more (d ∷ ds) (x ∷ xs) zero ld lx = refl
-largest_sum_more (d ∷ ds) (x ∷ xs) (suc k) ld lx = largest_sum_more ds xs k (omega arith) (omega arith)
-
-pub largest_sum_all : (ds xs : List ℕ) (k : ℕ) → min (length ds) (length xs) ≤ k → largest_sum (drop k ds) (drop k xs) ≡ 0
-largest_sum_all [] xs zero l = refl
-largest_sum_all [] xs (suc k) l = refl
-largest_sum_all (d ∷ ds) [] zero l = refl
-largest_sum_all (d ∷ ds) [] (suc k) l = none (drop k ds)
-  where
-    none : (es : List ℕ) → largest_sum es [] ≡ 0
-    none [] = refl
-    none (e ∷ es) = refl
-largest_sum_all (d ∷ ds) (x ∷ xs) zero l = absurd (omega arith)
-largest_sum_all (d ∷ ds) (x ∷ xs) (suc k) l = largest_sum_all ds xs k (omega arith)
+-- where one of two lists has come to its end, there is no sum
+pub no_sum : (ds xs : List ℕ) → min (length ds) (length xs) ≡ 0 → largest_sum ds xs ≡ 0
+no_sum [] xs e = refl
+no_sum (d ∷ ds) [] e = refl
+no_sum (d ∷ ds) (x ∷ xs) e = absurd (omega arith)

@@ -1,5 +1,5 @@
 -- Strokes that are asked for one after another, each struck as early as the rule allows.
-use Rattle.std.specs.Prelude.{◌≡◌, ℕ, cond, List, [], ◌∷◌, ◌++◌, length, drop, replicate, Some, None, Ok, Err, Result, nat_lt}
+use Rattle.std.specs.Prelude.{◌≡◌, ℕ, List, [], ◌∷◌, ◌++◌, length, drop, replicate, Some, None, Ok, Err, Result, nat_lt, if◌then◌else◌}
 use Rattle.limits.specs.Strokes.{last_tick}
 use Rattle.rules.specs.Rules.{Meaning, struck, earliest}
 
@@ -15,7 +15,7 @@ struck_by (t ∷ ts) m = struck_by ts (struck t m)
 
 -- a burst asked for at tick a, with the due ticks ds: refused by 2 past the last tick, and else answered by their number
 abbrev pub burst_answer : ℕ → List ℕ → Result ℕ ℕ
-burst_answer a ds = cond (nat_lt last_tick a) (Err 2) (Ok (length ds))
+burst_answer a ds = if nat_lt last_tick a then Err 2 else Ok (length ds)
 
 -- and what it leaves of the places and of the rule: the due ticks stand in the first places and the others as they were, and the rule is struck by them
 pub record Burst (m : Meaning) (a : ℕ) (places : List ℕ) (answer : Result ℕ ℕ) (places' : List ℕ) (m' : Meaning) : Type 0 where

@@ -1,6 +1,6 @@
 -- Limits as a rule keeps them, stroke by stroke: what each remembers, and its test of the next strokes.
-use Rattle.std.specs.Prelude.{◌≡◌, ℕ, ◌+◌, ◌-◌, ◌*◌, max, Bool, true, false, cond, ◌&&◌, List, [], ◌∷◌, ◌++◌, Some, None, Option, MatchOption, ◌==◌, nat_le}
-use Rattle.limits.specs.Limits.{largest}
+use Rattle.std.specs.Prelude.{◌≡◌, ℕ, ◌+◌, ◌-◌, ◌*◌, max, Bool, true, false, ◌&&◌, List, [], ◌∷◌, ◌++◌, Some, None, Option, MatchOption, ◌==◌, nat_le, if◌then◌else◌}
+use Rattle.limits.specs.Limits.{Limit, stair, table, largest}
 use Rattle.rules.specs.Rules.{Meaning, struck}
 use Rattle.rules.specs.Calls.{can_strike}
 
@@ -30,7 +30,7 @@ afford n p w (t ∷ ts) = nat_le (w + p) (t + n * p) && afford n p (max t w + p)
 
 -- its own last stroke, as far as that number tells: none if the burst was never touched, else the least tick that it can have had
 abbrev pub stair_last : ℕ → ℕ → ℕ → Option ℕ
-stair_last n p w = cond (w == 0) None (Some (w - n * p))
+stair_last n p w = if w == 0 then None else Some (w - n * p)
 
 abbrev pub stair_own : ℕ → ℕ → ℕ → Meaning
 stair_own n p w = record { last = stair_last n p w; allows = afford n p w }
@@ -52,3 +52,8 @@ table_last (x ∷ xs) = Some (largest (x ∷ xs))
 
 abbrev pub table_own : List ℕ → List ℕ → Meaning
 table_own given past = record { last = table_last past; allows = keep_apart given past }
+
+-- how long a limit can bar the next stroke: a stair for its period, a table for its largest distance
+abbrev pub longest_bar : Limit → ℕ
+longest_bar (stair n p) = p
+longest_bar (table given) = largest given

@@ -1,6 +1,5 @@
 pub mod Rules
 pub mod Calls
-pub mod Rings
 pub mod Layers
 pub mod Lots
 pub mod Bursts

@@ -1,5 +1,5 @@
 -- What the values of the code stand for: rules by what they mean.
-use Rattle.std.specs.Prelude.{ℕ, max, List, take}
+use Rattle.std.specs.Prelude.{ℕ, max}
 use Rattle.limits.specs.Limits.{largest}
 use Rattle.limits.specs.Values.{burst_of, period_of, given}
 use Rattle.rules.specs.Rules.{Meaning, open_rule}
@@ -8,7 +8,6 @@ use Rattle.rules.specs.declared.layer.Layer.{Layer}
 use Rattle.rules.specs.declared.open_rule.OpenRule.{OpenRule}
 use Rattle.rules.specs.declared.stair_tally.StairTally.{StairTally}
 use Rattle.rules.specs.declared.table_tally.TableTally.{TableTally}
-use Rattle.rules.specs.declared.table_tally.past.Past.{Past}
 
 -- what an open rule means
 abbrev pub open_means : OpenRule → Meaning
@@ -21,13 +20,9 @@ stair_tally_own s = stair_own (burst_of s.stair) (period_of s.stair) s.whole
 abbrev pub stair_tally_span : StairTally → ℕ
 stair_tally_span s = period_of s.stair
 
--- the strokes that a table remembers, the newest first
-abbrev pub remembered : Past → List ℕ
-remembered x = take x.count x.strokes
-
 -- a table alone
 abbrev pub table_tally_own : TableTally → Meaning
-table_tally_own s = table_own (given s.table) (remembered s.past)
+table_tally_own s = table_own (given s.table) s.past
 
 abbrev pub table_tally_span : TableTally → ℕ
 table_tally_span s = largest (given s.table)

@@ -5,7 +5,7 @@ ghost use Rattle.rules.specs.Examples.{WorkedExamples};
 ghost use Rattle.limits.specs.Refusals.{told};
 
 use crate::rule::Rule;
-use limits::{LAST_TICK, Refusal};
+use limits::{Refusal, up_to_last};
 
 // Asks for as many strokes as there are places, all at one tick, strikes the rule as early as it allows for each, and
 // writes down the due ticks. Answers how many there are: fewer than places only where no tick up to the last one suits
@@ -15,15 +15,13 @@ pub fn burst<R: Rule>(rule: &mut R, asked: u64, due: &mut [u64]) -> Result<usize
     ensures reach { R.Rule.reaches rule.new ≡ R.Rule.reaches rule.old }
     ensures examples { WorkedExamples }
 {
-    if asked > LAST_TICK {
-        return Err(Refusal::PastLastTick);
-    }
-    for i in 0..due.len() {
+    up_to_last(asked)?;
+    for (i, place) in due.iter_mut().enumerate() {
         let Some(tick) = rule.earliest(asked)? else {
             return Ok(i);
         };
         rule.strike(tick)?;
-        due[i] = tick;
+        *place = tick;
     }
     Ok(due.len())
 }

@@ -1,16 +1,45 @@
 // A limit on any rule. Any limit, with whatever strokes it remembers, and any rule make a rule.
+ghost use Rattle.std.specs.Prelude.{◌≡◌, ◌↔◌, ℕ, max, List, IsTrue};
+ghost use Rattle.limits.specs.Limits.{Keeps};
+ghost use Rattle.rules.specs.Layers.{longest_bar};
+ghost use Rattle.rules.specs.Rules.{laid};
 ghost use Rattle.rules.specs.Values.{layer_means, layer_reach};
 ghost use Rattle.rules.specs.LayerLaws.{layered_order, layered_early, layered_late, layered_reach};
 ghost use Rattle.std.proofs.Common.{rules};
 
+use crate::opening::first_open;
 use crate::rule::Rule;
+use crate::stair_tally::StairTally;
+use crate::table_tally::TableTally;
 use crate::tally::Tally;
-use limits::{LAST_TICK, Refusal};
+use limits::{Refusal, up_to_last};
 
-#[derive(Clone, Copy)]
+#[derive(Clone, Copy, Debug, PartialEq, Eq)]
 pub struct Layer<T, R> {
     pub tally: T,
     pub below: R,
+}
+
+// A stair on a rule.
+pub type StairOn<R> = Layer<StairTally, R>;
+
+// A table on a rule.
+pub type TableOn<R> = Layer<TableTally, R>;
+
+impl<T: Tally, R: Rule> Layer<T, R> {
+    // Lays a limit on a rule, which may have been struck before.
+    pub fn new(limit: T::Limit, below: R) -> Layer<T, R>
+        ensures limit { T.Tally.limit_of result.tally ≡ limit }
+        ensures below { result.below ≡ below }
+        ensures laid { layer_means T.Tally.own R.Rule.meaning result ≡ laid (T.Tally.numbers limit) (R.Rule.meaning below) }
+        ensures keeps { (ts : List ℕ) → IsTrue ((layer_means T.Tally.own R.Rule.meaning result).allows ts) ↔ (IsTrue ((R.Rule.meaning below).allows ts) × Keeps (T.Tally.numbers limit) ts) }
+        ensures reach { layer_reach T.Tally.span R.Rule.reaches result ≡ max (R.Rule.reaches below) (longest_bar (T.Tally.numbers limit)) }
+    {
+        Layer {
+            tally: T::new(limit),
+            below,
+        }
+    }
 }
 
 impl<T: Tally, R: Rule> Rule for Layer<T, R> {
@@ -35,24 +64,16 @@ impl<T: Tally, R: Rule> Rule for Layer<T, R> {
     }
 
     fn earliest(&self, t: u64) -> Result<Option<u64>, Refusal> {
-        if t > LAST_TICK {
-            return Err(Refusal::PastLastTick);
-        }
-        let from = t.max(self.tally.opens());
-        if from > LAST_TICK {
+        let Some(from) = first_open(t, self.tally.opens())? else {
             return Ok(None);
-        }
+        };
         self.below.earliest(from)
     }
 
     // The limit looks first, then the rule below is struck, and only then is the stroke charged to the limit.
     fn strike(&mut self, t: u64) -> Result<(), Refusal> {
-        if t > LAST_TICK {
-            return Err(Refusal::PastLastTick);
-        }
-        let Some(charged) = self.tally.after(t) else {
-            return Err(Refusal::NotAllowed);
-        };
+        up_to_last(t)?;
+        let charged = self.tally.after(t).ok_or(Refusal::NotAllowed)?;
         self.below.strike(t)?;
         self.tally = charged;
         Ok(())

@@ -4,17 +4,16 @@
 mod bursting;
 mod layer;
 mod open_rule;
+mod opening;
 mod rule;
 mod stair_tally;
 mod table_tally;
 mod tally;
 
 pub use bursting::burst;
-pub use layer::Layer;
+pub use layer::{Layer, StairOn, TableOn};
 pub use open_rule::OpenRule;
 pub use rule::Rule;
 pub use stair_tally::StairTally;
-pub use stair_tally::counting::stair_on;
 pub use table_tally::TableTally;
-pub use table_tally::counting::table_on;
 pub use tally::Tally;

@@ -6,10 +6,11 @@ ghost use Rattle.rules.specs.Values.{open_means};
 ghost use Rattle.rules.specs.OpenLaws.{open_order, open_early, open_late, open_reach};
 ghost use Rattle.std.proofs.Common.{rules};
 
+use crate::opening::first_open;
 use crate::rule::Rule;
-use limits::{LAST_TICK, Refusal};
+use limits::{Refusal, up_to_last};
 
-#[derive(Clone, Copy)]
+#[derive(Clone, Copy, Debug, PartialEq, Eq)]
 pub struct OpenRule {
     last: Option<u64>,
 }
@@ -50,20 +51,11 @@ impl Rule for OpenRule {
     }
 
     fn earliest(&self, t: u64) -> Result<Option<u64>, Refusal> {
-        if t > LAST_TICK {
-            return Err(Refusal::PastLastTick);
-        }
-        let from = t.max(self.opens());
-        if from > LAST_TICK {
-            return Ok(None);
-        }
-        Ok(Some(from))
+        first_open(t, self.opens())
     }
 
     fn strike(&mut self, t: u64) -> Result<(), Refusal> {
-        if t > LAST_TICK {
-            return Err(Refusal::PastLastTick);
-        }
+        up_to_last(t)?;
         if t < self.opens() {
             return Err(Refusal::NotAllowed);
         }

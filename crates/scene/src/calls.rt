@@ -1,60 +1,37 @@
 // The calls of this scene.
+use frames::Action::{Gap, Request, Take, Waiting};
 use frames::{Action, Call};
 use limits::LAST_TICK;
 
-fn ask(bell: u64, tick: u64) -> Call {
-    Call {
-        bell,
-        action: Action::Request(tick),
-    }
-}
-
-fn take(bell: u64, tick: u64) -> Call {
-    Call {
-        bell,
-        action: Action::Take(tick),
-    }
-}
-
-fn gap(bell: u64, tick: u64) -> Call {
-    Call {
-        bell,
-        action: Action::Gap(tick),
-    }
-}
-
-fn count(bell: u64) -> Call {
-    Call {
-        bell,
-        action: Action::Waiting,
-    }
+fn on(bell: u64, action: Action) -> Call {
+    Call { bell, action }
 }
 
 pub(super) fn scene() -> [Call; 24] {
     [
-        ask(0, 0),
-        ask(0, 0),
-        ask(0, 0),
-        gap(0, 5),
-        take(0, 10),
-        ask(0, 5),
-        ask(1, 5),
-        ask(1, 5),
-        ask(1, 100),
-        ask(2, 100),
-        ask(3, 200),
-        ask(3, 300),
-        count(1),
-        take(1, 404),
-        take(1, 404),
-        take(1, 500),
-        gap(0, 60_000),
-        take(0, 60_000),
-        take(0, 60_000),
-        take(0, 60_000),
-        gap(0, 3_660_000),
-        ask(3, LAST_TICK + 1),
-        ask(3, LAST_TICK),
-        ask(3, LAST_TICK),
+        on(0, Request(0)),
+        on(0, Request(0)),
+        on(0, Request(0)),
+        on(0, Gap(5)),
+        on(0, Take(10)),
+        on(0, Request(5)),
+        on(1, Request(5)),
+        on(1, Request(5)),
+        on(1, Request(100)),
+        on(2, Request(100)),
+        on(3, Request(200)),
+        on(3, Request(300)),
+        on(1, Waiting),
+        on(1, Take(404)),
+        on(1, Take(404)),
+        on(1, Take(500)),
+        on(0, Gap(60_000)),
+        on(0, Take(60_000)),
+        on(0, Take(60_000)),
+        on(0, Take(60_000)),
+        on(0, Gap(3_660_000)),
+        on(3, Request(LAST_TICK + 1)),
+        on(3, Request(LAST_TICK)),
+        on(3, Request(LAST_TICK)),
     ]
 }

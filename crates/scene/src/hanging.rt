@@ -5,13 +5,13 @@ ghost use Rattle.scene.specs.Hung.{chime_line, great_line, old_line, tower_means
 
 use frames::{Line, SideBySide};
 use limits::{Refusal, Stair, Table};
-use rules::{Layer, OpenRule, Rule, StairTally, TableTally, stair_on, table_on};
+use rules::{OpenRule, Rule, StairOn, TableOn};
 
-pub(super) type OneStair = Layer<StairTally, OpenRule>;
+pub(super) type OneStair = StairOn<OpenRule>;
 
-pub(super) type OneTable = Layer<TableTally, OpenRule>;
+pub(super) type OneTable = TableOn<OpenRule>;
 
-pub(super) type StairOnStair = Layer<StairTally, OneStair>;
+pub(super) type StairOnStair = StairOn<OneStair>;
 
 pub(super) type Tower = SideBySide<Line<OneStair>, SideBySide<Line<OneTable>, Line<StairOnStair>>>;
 
@@ -19,11 +19,7 @@ pub(super) type Tower = SideBySide<Line<OneStair>, SideBySide<Line<OneTable>, Li
 fn great_bell() -> Result<Line<OneStair>, Refusal>
     ensures { told_by great_line result ≡ Ok great_bell }
 {
-    let stair = Stair::new(2, 60_000)?;
-    let open = OpenRule::new();
-    let rule = stair_on(stair, open);
-    let line = Line::new(rule);
-    Ok(line)
+    Ok(Line::new(StairOn::new(Stair::new(2, 60_000)?, OpenRule::new())))
 }
 
 // 400 ms from a stroke to the next, and 1,000 ms to the one after that.
@@ -33,24 +29,16 @@ fn chime() -> Result<Line<OneTable>, Refusal>
     let mut table = Table::new();
     table.push(400)?;
     table.push(1000)?;
-    let open = OpenRule::new();
-    let rule = table_on(table, open);
-    let line = Line::new(rule);
-    Ok(line)
+    Ok(Line::new(TableOn::new(table, OpenRule::new())))
 }
 
 // One stroke every two seconds, and it was struck at 500 ms before it was hung with a second stair.
 fn old_bell() -> Result<Line<StairOnStair>, Refusal>
     ensures { told_by old_line result ≡ Ok old_bell }
 {
-    let slow = Stair::new(1, 2000)?;
-    let slower = Stair::new(2, 3000)?;
-    let open = OpenRule::new();
-    let mut below = stair_on(slow, open);
+    let mut below = StairOn::new(Stair::new(1, 2000)?, OpenRule::new());
     below.strike(500)?;
-    let rule = stair_on(slower, below);
-    let line = Line::new(rule);
-    Ok(line)
+    Ok(Line::new(StairOn::new(Stair::new(2, 3000)?, below)))
 }
 
 // The three side by side.
@@ -60,6 +48,5 @@ pub(super) fn hang() -> Result<Tower, Refusal>
     let great = great_bell()?;
     let small = chime()?;
     let old = old_bell()?;
-    let right = SideBySide::new(small, old);
-    Ok(SideBySide::new(great, right))
+    Ok(SideBySide::new(great, SideBySide::new(small, old)))
 }

@@ -10,12 +10,12 @@ mod calls;
 mod hanging;
 mod telling;
 
-fn play(rt: &HostRuntime) -> anyhow::Result<()> {
+fn play(rt: &(impl Print + AllocGlobal)) -> anyhow::Result<()> {
     tell_bells(rt)?;
     let mut tower = hang()?;
     let calls = scene();
     let answers = run(rt.alloc(), &mut tower, &calls)?;
-    for (call, answer) in calls.iter().zip(answers.iter()) {
+    for (call, answer) in calls.iter().zip(&answers) {
         tell_call(rt, *call)?;
         tell_answer(rt, *answer)?;
     }

@@ -1,9 +1,8 @@
 // The sentences that this program prints.
-use frames::{Action, Answer, Call, Reply};
-use limits::Refusal;
+use frames::{Action, Answer, Call, Grant, Reply};
 use std::io;
 
-pub(super) fn tell_bells(rt: &HostRuntime) -> io::Result<()> {
+pub(super) fn tell_bells(rt: &impl Print) -> io::Result<()> {
     println!(rt; "Bell 0 rings twice at once, and then once a minute.")?;
     println!(rt;
         "Bell 1 needs 400 ms from a stroke to the next, and 1000 ms to the one after that."
@@ -14,9 +13,9 @@ pub(super) fn tell_bells(rt: &HostRuntime) -> io::Result<()> {
     println!(rt; "")
 }
 
-pub(super) fn tell_call(rt: &HostRuntime, call: Call) -> io::Result<()> {
-    let bell = call.bell;
-    match call.action {
+pub(super) fn tell_call(rt: &impl Print, call: Call) -> io::Result<()> {
+    let Call { bell, action } = call;
+    match action {
         Action::Request(t) => print!(rt; "At {t} ms, a stroke of bell {bell}? "),
         Action::Take(t) => print!(rt; "At {t} ms, is a stroke of bell {bell} due? "),
         Action::Gap(t) => print!(rt; "At {t} ms, how long since bell {bell} was due? "),
@@ -24,29 +23,16 @@ pub(super) fn tell_call(rt: &HostRuntime, call: Call) -> io::Result<()> {
     }
 }
 
-pub(super) fn tell_answer(rt: &HostRuntime, answer: Answer) -> io::Result<()> {
+pub(super) fn tell_answer(rt: &impl Print, answer: Answer) -> io::Result<()> {
     match answer {
-        Ok(reply) => tell_reply(rt, reply),
-        Err(refusal) => tell_refusal(rt, refusal),
-    }
-}
-
-fn tell_reply(rt: &HostRuntime, reply: Reply) -> io::Result<()> {
-    match reply {
-        Reply::Due(t) => println!(rt; "Granted, due at {t} ms."),
-        Reply::Taken(Some(grant)) => {
-            let asked = grant.asked;
-            let due = grant.due;
+        Ok(Reply::Due(t)) => println!(rt; "Granted, due at {t} ms."),
+        Ok(Reply::Taken(Some(Grant { asked, due }))) => {
             println!(rt; "Yes, asked for at {asked} ms and due at {due} ms.")
         }
-        Reply::Taken(None) => println!(rt; "No."),
-        Reply::Since(Some(ticks)) => println!(rt; "{ticks} ms."),
-        Reply::Since(None) => println!(rt; "It was not rung yet."),
-        Reply::Waits(n) => println!(rt; "{n}."),
+        Ok(Reply::Taken(None)) => println!(rt; "No."),
+        Ok(Reply::Since(Some(ticks))) => println!(rt; "{ticks} ms."),
+        Ok(Reply::Since(None)) => println!(rt; "It was not rung yet."),
+        Ok(Reply::Waits(n)) => println!(rt; "{n}."),
+        Err(refusal) => println!(rt; "Refused by {}: {refusal}.", refusal.number()),
     }
-}
-
-fn tell_refusal(rt: &HostRuntime, refusal: Refusal) -> io::Result<()> {
-    let number = refusal.number();
-    println!(rt; "Refused by {number}: {refusal}.")
 }

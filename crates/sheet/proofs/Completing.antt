@@ -1,6 +1,7 @@
 -- Good lines begin a sheet: after the eighth they are one, before it plain bells are missing.
-use Rattle.std.proofs.Common.{◌≡◌, ℕ, zero, suc, ◌+◌, ◌-◌, ◌*◌, ◌≤◌, ◌⊎◌, List, [], ◌∷◌, ◌++◌, map, length, replicate, Ok, decimal, sym, refl, ap, ◌∙◌, subst, inl, inr, append_assoc, append-nil, arith, length-append}
-use lib.ListN.{length-map, length-replicate}
+use Rattle.std.proofs.Common.{◌≡◌, ℕ, zero, suc, ◌+◌, ◌-◌, ◌*◌, ◌≤◌, ◌⊎◌, List, [], ◌∷◌, ◌++◌, map, length, replicate, Ok, decimal, sym, refl, ap, ◌∙◌, subst, inl, inr, append-nil, arith, length-append}
+use Rattle.std.proofs.lemmas.List.{length-map, length-replicate}
+use Rattle.std.proofs.lemmas.Grind.{flat_map-append}
 use Rattle.std.specs.List.{join_with_byte, flat_map, AllByRecursion}
 use Rattle.std.proofs.ByRecursion.{All-append, All-map, All-weaker}
 use Rattle.limits.specs.Strokes.{longest}
@@ -11,10 +12,6 @@ use Rattle.sheet.specs.declared.ask.Ask.{Ask}
 use Rattle.sheet.proofs.Numbers.{decimal_short}
 use Rattle.sheet.proofs.Lines.{lines_of, Good}
 use Rattle.sheet.proofs.Sheets.{accepts}
-
-joined-append : (xs ys : List (List (List ℕ))) → flat_map line (xs ++ ys) ≡ flat_map line xs ++ flat_map line ys
-joined-append [] ys = refl
-joined-append (x ∷ xs) ys = ap (λ (t : List ℕ). line x ++ t) (joined-append xs ys) ∙ sym (append_assoc (line x) (flat_map line xs) (flat_map line ys))
 
 entries-append : (n : ℕ) (es ds : List Entry) → entry_lines n (es ++ ds) ≡ entry_lines n es ++ entry_lines (n + length es) ds
 entries-append n [] ds = ap (λ (m : ℕ). entry_lines m ds) (omega arith)
@@ -82,7 +79,7 @@ complete parts es asks front good is short = go good.placed
         let size : length (es ++ more) ≡ 8 = omega (arith, length-append es more, length-replicate k plain) in
         let hangable = All-append Hangable es more good.hangable (plain_hangable k) in
         let begin : front ≡ flat_map line (entry_lines 0 es) = is ∙ ap (λ (xs : List Ask). flat_map line (lines_of 0 es xs)) none ∙ ap (flat_map line) (append-nil (entry_lines 0 es)) in
-        let whole : flat_map line (entry_lines 0 (es ++ more)) ≡ front ++ rest = ap (flat_map line) (entries-append 0 es more) ∙ joined-append (entry_lines 0 es) (entry_lines (0 + length es) more) ∙ ap (λ (t : List ℕ). t ++ rest) (sym begin) in
+        let whole : flat_map line (entry_lines 0 (es ++ more)) ≡ front ++ rest = ap (flat_map line) (entries-append 0 es more) ∙ flat_map-append line (entry_lines 0 es) (entry_lines (0 + length es) more) ∙ ap (λ (t : List ℕ). t ++ rest) (sym begin) in
         let small = entries_short 0 (es ++ more) (omega arith) hangable in
         let text : sheet_text (record { entries = es ++ more; asks = [] }) ≡ front ++ rest = ap (flat_map line) (append-nil (entry_lines 0 (es ++ more))) ∙ whole in
         let fits : length (front ++ rest) ≤ 16384 = rw (← whole) (omega arith) in

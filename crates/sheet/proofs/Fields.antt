@@ -7,7 +7,7 @@ use Rattle.sheet.specs.Numbers.{Writable}
 use Rattle.sheet.specs.Faults.{at, Checked, ◌>>=◌}
 use Rattle.sheet.specs.Check.{number_at, range_at, distances_at}
 use Rattle.sheet.proofs.Numbers.{written_reads, reads_written}
-use Rattle.sheet.proofs.Steps.{ok_same, bind_is, must_is, bind_ok, must_ok}
+use Rattle.sheet.proofs.Steps.{bind_is, must_is, bind_ok, must_ok}
 
 pub number_back : (k i : ℕ) (text : List ℕ) (n : ℕ) → number_at k i text ≡ Ok n → (text ≡ decimal n) × Writable n
 number_back k i text n h = reads_written text n (grind arith)
@@ -21,7 +21,7 @@ range_back k i x low high text n h =
     let b = must_ok (leb low a.0 && leb a.0 high) (at k i x) _ n a.2 in
     let read = number_back k i text a.0 a.1 in
     let parts = and_parts (leb low a.0) (leb a.0 high) b.0 in
-    subst (λ (m : ℕ). (text ≡ decimal m) × (low ≤ m) × (m ≤ high)) (ok_same b.1) (read.0, leb-true low a.0 parts.0, leb-true a.0 high parts.1)
+    subst (λ (m : ℕ). (text ≡ decimal m) × (low ≤ m) × (m ≤ high)) (cc b.1) (read.0, leb-true low a.0 parts.0, leb-true a.0 high parts.1)
 
 pub range_there : (k i x low high n : ℕ) → low ≤ n → n ≤ high → Writable n → range_at k i x low high (decimal n) ≡ Ok n
 range_there k i x low high n l h w = bind_is _ (number_there k i n w) ∙ must_is (at k i x) _ (and_from (leb low n) (leb n high) (le-leb low n l) (le-leb n high h))
@@ -38,12 +38,13 @@ Distances low ds = (rises_from low ds ≡ true) × AllByRecursion (λ d. d ≤ l
 
 pub distances_back : (k i low : ℕ) (texts : List (List ℕ)) (ds : List ℕ) → distances_at k i low texts ≡ Ok ds → (texts ≡ map decimal ds) × Distances low ds
 distances_back k i low [] [] h = (refl, (refl, tt))
-distances_back k i low [] (d ∷ ds) h = let z : ◌≡◌ {A = ℕ} 0 1 = cc in absurd (omega arith)
+distances_back k i low [] (d ∷ ds) h = cc
 distances_back k i low (text ∷ texts) ds h =
     let a = range_ok k i 3 low longest text _ ds h in
     let b = bind_ok (distances_at k (suc i) a.0 texts) _ ds a.4 in
     let rest = distances_back k (suc i) a.0 texts b.0 b.1 in
-    subst (λ (xs : List ℕ). (text ∷ texts ≡ map decimal xs) × Distances low xs) (ok_same b.2) (
+    let same : a.0 ∷ b.0 ≡ ds = cc b.2 in
+    subst (λ (xs : List ℕ). (text ∷ texts ≡ map decimal xs) × Distances low xs) same (
       ap₂ (λ (x : List ℕ) (xs : List (List ℕ)). x ∷ xs) a.1 rest.0,
       (and_from (leb low a.0) (rises_from a.0 b.0) (le-leb low a.0 a.2) rest.1.0, (a.3, rest.1.1)),
     )

@@ -4,7 +4,7 @@ use Rattle.sheet.specs.Parts.{tab, parted}
 use Rattle.sheet.specs.Sheet.{Sheet}
 use Rattle.sheet.specs.Faults.{Fault, at, ◌>>=◌}
 use Rattle.sheet.specs.Check.{Row, row, requests_in, with_row, check_from}
-use Rattle.sheet.proofs.Steps.{apart, bind_is, bind_err, must_err}
+use Rattle.sheet.proofs.Steps.{bind_is, bind_err, must_err}
 use Rattle.sheet.proofs.Lines.{Good, none_good, good_row}
 use Rattle.sheet.proofs.FieldFaults.{row_line}
 
@@ -66,12 +66,12 @@ pub faulted : (n q : ℕ) (parts : List (List ℕ)) (f : Fault) → 0 < length p
 faulted n q [] f some h = absurd (omega arith)
 faulted n q (part ∷ []) f some h = ⊎_elim
     (λ e. faulted_end n q 4 part f e)
-    (λ a. ⊎_elim (λ e. faulted_end n q 15 part f e) (λ b. absurd (apart b.1)) (must_err (ltb 8 (suc n)) (at (suc n) 0 15) _ f a.1))
+    (λ a. ⊎_elim (λ e. faulted_end n q 15 part f e) (λ b. cc b.1) (must_err (ltb 8 (suc n)) (at (suc n) 0 15) _ f a.1))
     (must_err (eqb (length part) 0) (at (suc n) 0 4) _ f h)
 faulted n q (part ∷ next ∷ parts) f some h = ⊎_elim
     (λ e. faulted_here n q part next parts f e)
     (λ a. ⊎_elim
     (λ e. faulted_later n q part next parts a.0 f a.1 (faulted (suc n) (q + requests_in a.0) (next ∷ parts) f (omega arith) e))
-    (λ b. absurd (apart b.2))
+    (λ b. cc b.2)
     (bind_err (check_from (suc (suc n)) (q + requests_in a.0) (next ∷ parts)) _ f a.2))
     (bind_err (row (suc n) q (parted tab part)) _ f h)

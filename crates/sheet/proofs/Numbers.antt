@@ -58,7 +58,7 @@ text_reads (c ∷ d ∷ cs) h =
     grind (arith, nat_tests)
 
 reads_text : (text : List ℕ) (n : ℕ) → read_number text ≡ Ok n → NumberText text × (n ≡ after 0 text)
-reads_text [] n h = let z : ◌≡◌ {A = ℕ} 0 1 = cc in absurd (omega arith)
+reads_text [] n h = cc
 reads_text (c ∷ []) n h =
     let rest = read_figures 0 0 n (c ∷ []) (omega arith) in
     (record { plain = grind (arith, nat_tests); some = omega arith; few = omega arith; lead = λ e. refl }, grind (arith, nat_tests))

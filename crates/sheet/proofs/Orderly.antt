@@ -4,7 +4,7 @@ use Rattle.limits.specs.Strokes.{longest}
 use Rattle.sheet.specs.Numbers.{Writable}
 use Rattle.sheet.specs.Faults.{Fault, at, Checked, ◌>>=◌}
 use Rattle.sheet.specs.Check.{number_at, range_at, distances_at}
-use Rattle.sheet.proofs.Steps.{apart, bind_is, bind_err, must_err}
+use Rattle.sheet.proofs.Steps.{bind_is, bind_err, must_err}
 use Rattle.sheet.proofs.Fields.{number_there, range_back, range_there}
 
 -- one field: its faults are in its place, and some text is right
@@ -20,7 +20,7 @@ number_field k i = record { here = λ t f e. (grind arith, grind arith); right =
 
 pub range_field : (k i x low high : ℕ) → low ≤ high → Writable low → Field k i (range_at k i x low high) (λ n. (low ≤ n) × (n ≤ high))
 range_field k i x low high l w = record {
-  here = λ t f e. ⊎_elim (λ a. (number_field k i).here t f a) (λ a. ⊎_elim (λ b. (cc, cc)) (λ b. absurd (apart b.1)) (must_err (leb low a.0 && leb a.0 high) (at k i x) _ f a.2)) (bind_err (number_at k i t) _ f e);
+  here = λ t f e. ⊎_elim (λ a. (number_field k i).here t f a) (λ a. ⊎_elim (λ b. (cc, cc)) (λ b. cc b.1) (must_err (leb low a.0 && leb a.0 high) (at k i x) _ f a.2)) (bind_err (number_at k i t) _ f e);
   right = λ t n e. let r = range_back k i x low high t n e in (r.1, r.2);
   text = decimal low;
   number = low;
@@ -43,7 +43,7 @@ pub orderly_none : {A : Type 0} {k i : ℕ} {c : List (List ℕ) → Checked A} 
 orderly_none {k = k} {i = i} {c = c} a e = record { passed = ([], a, refl, e); wrong = wrong }
   where
     wrong : (ts : List (List ℕ)) (f : Fault) → length ts ≡ 0 → c ts ≡ Err f → Wrong k i 0 c ts f
-    wrong [] f len h = absurd (apart (sym e ∙ h))
+    wrong [] f len h = cc
     wrong (t ∷ ts) f len h = absurd (omega arith)
 
 -- another check that does the same on l texts
@@ -65,7 +65,7 @@ orderly_then {c = c} g o = record {
       let w = o.wrong ts f len h in
       let b = w.before in
       record { on = w.on; from = w.from; before = (b.0, g b.1, b.2, b.3, bind_is _ b.4); after = λ us len h. ap (λ r. r >>= λ a. Ok (g a)) (w.after us len h) })
-      (λ a. absurd (apart a.2))
+      (λ a. cc a.2)
       (bind_err (c ts) _ f e);
 }
 

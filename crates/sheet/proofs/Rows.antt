@@ -1,6 +1,6 @@
 -- One line of a sheet: what the check of it finds, against the fields that are written.
-use Rattle.std.proofs.Common.{◌≡◌, ℕ, suc, ◌-◌, ◌<◌, ◌≤◌, true, ◌&&◌, eqb, ltb, leb, ◌⊎◌, List, [], ◌∷◌, length, drop, Some, None, Ok, decimal, Option, sym, refl, ap, ◌∙◌, inl, inr, arith, length-drop}
-use lib.ListN.{length-map}
+use Rattle.std.proofs.Common.{◌≡◌, ℕ, suc, ◌-◌, ◌<◌, ◌≤◌, true, ◌&&◌, eqb, ltb, leb, ◌⊎◌, List, [], ◌∷◌, length, drop, Some, None, Ok, decimal, Option, refl, ap, ◌∙◌, inl, inr, arith, length-drop}
+use Rattle.std.proofs.lemmas.List.{length-map}
 use Rattle.std.specs.List.{AllByRecursion}
 use Rattle.std.proofs.ByRecursion.{All-map, All-weaker}
 use Rattle.std.proofs.lemmas.Bool.{and_parts, and_from, leb-true, le-leb, eqb-true, ltb-true, lt-ltb}
@@ -14,7 +14,7 @@ use Rattle.sheet.specs.declared.ask.Wish.TheVariants.{Request, Take, Gap}
 use Rattle.sheet.specs.declared.ask.Ask.{Ask}
 use Rattle.sheet.proofs.Parts.{Free}
 use Rattle.sheet.proofs.Numbers.{decimal_free}
-use Rattle.sheet.proofs.Steps.{apart, ok_same, bind_is, must_is, bind_ok, must_ok}
+use Rattle.sheet.proofs.Steps.{bind_is, must_is, bind_ok, must_ok}
 use Rattle.sheet.proofs.Fields.{number_back, number_there, range_there, range_ok, distances_back, distances_there}
 
 six : (fs : List (List ℕ)) → 6 ≤ length fs → fs ≡ field_at 1 fs ∷ field_at 2 fs ∷ field_at 3 fs ∷ field_at 4 fs ∷ field_at 5 fs ∷ field_at 6 fs ∷ drop 6 fs
@@ -34,9 +34,9 @@ three (a ∷ b ∷ c ∷ []) h = refl
 three (a ∷ b ∷ c ∷ d ∷ fs) h = absurd (omega arith)
 
 pub kind_back : (text : List ℕ) (x : Kind) → kind_of text ≡ Some x → text ≡ letter x ∷ []
-kind_back [] x h = absurd (let z : ◌≡◌ {A = ℕ} 0 1 = cc in omega arith)
+kind_back [] x h = cc
 kind_back (c ∷ []) x h = grind (arith, nat_tests)
-kind_back (c ∷ d ∷ cs) x h = absurd (let z : ◌≡◌ {A = ℕ} 0 1 = cc in omega arith)
+kind_back (c ∷ d ∷ cs) x h = cc
 
 kind_there : (x : Kind) → kind_of (letter x ∷ []) ≡ Some x
 kind_there bell = refl
@@ -70,7 +70,7 @@ bell_back n fs r first h =
     let next : c.0 ≡ n = omega arith in
     record {
       entry = record { burst₁ = n₁.0; period₁ = p₁.0; burst₂ = n₂.0; period₂ = p₂.0; distances = ds.0 };
-      is = sym (ok_same ds.2);
+      is = cc ds.2;
       fields = cc (six fs many, first, c.1, next, n₁.1, p₁.1, n₂.1, p₂.1, rest.0);
       hangable = record {
         stair₁ = (n₁.2, n₁.3, p₁.2, p₁.3);
@@ -121,7 +121,7 @@ call_back n q w fs r first h =
     let late = ltb-true 8 k b.0 in
     record {
       ask = record { wish = w; bell = m.0; tick = t.0 };
-      is = sym (ok_same t.2);
+      is = cc t.2;
       fields = cc (three fs (eqb-true (length fs) 3 a.0), first, f₂.0, f₃.0);
       writable = (f₂.1, f₃.1);
       late = omega arith;
@@ -140,7 +140,7 @@ pub row_back : (n q : ℕ) (fs : List (List ℕ)) (r : Row) → row (suc n) q fs
 row_back n q fs r h = go (kind_of (field_at 1 fs)) refl h
   where
     go : (o : Option Kind) → kind_of (field_at 1 fs) ≡ o → row_of (suc n) q fs o ≡ Ok r → BellLine n fs r ⊎ CallLine n q fs r
-    go None e h = absurd (apart (sym h))
+    go None e h = cc
     go (Some bell) e h = inl (bell_back n fs r (kind_back (field_at 1 fs) bell e) h)
     go (Some (call w)) e h = inr (call_back n q w fs r (kind_back (field_at 1 fs) (call w) e) h)
 

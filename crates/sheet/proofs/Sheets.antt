@@ -1,6 +1,7 @@
 -- The check of a sheet against what is written: it accepts that and nothing else.
 use Rattle.std.proofs.Common.{◌≡◌, ℕ, suc, ◌+◌, ◌<◌, ◌≤◌, true, eqb, ltb, leb, List, [], ◌∷◌, ◌++◌, map, length, Ok, sym, refl, ap, ◌∙◌, subst, ⊎_elim, arith}
 use Rattle.std.specs.List.{join_with_byte, AllByRecursion}
+use Rattle.std.proofs.ByRecursion.{All-map, All-weaker}
 use Rattle.std.proofs.lemmas.List.{nil_from_length}
 use Rattle.std.proofs.lemmas.Bool.{leb-true, le-leb, eqb-true, ltb-true, lt-ltb}
 use Rattle.sheet.specs.Parts.{tab, newline, parted}
@@ -11,7 +12,7 @@ use Rattle.sheet.specs.declared.ask.Wish.{Wish}
 use Rattle.sheet.specs.declared.ask.Wish.TheVariants.{Request, Take, Gap}
 use Rattle.sheet.specs.declared.ask.Ask.{Ask}
 use Rattle.sheet.proofs.Parts.{Free, ended, rejoined-parted, parted-rejoined, lines_rejoined, lines_parted, free_rejoined, some_ended}
-use Rattle.sheet.proofs.Steps.{apart, ok_same, bind_is, must_is, bind_ok, must_ok}
+use Rattle.sheet.proofs.Steps.{bind_is, must_is, bind_ok, must_ok}
 use Rattle.sheet.proofs.Rows.{bell_there, call_there, entry_free, ask_free}
 use Rattle.sheet.proofs.Lines.{lines_of, Good, none_good, good_row}
 
@@ -20,19 +21,19 @@ abbrev Found : ℕ → ℕ → List (List ℕ) → Sheet → Type 0
 Found n q parts s = (front : List (List ℕ)) × (parts ≡ front ++ ([] ∷ [])) × (8 ≤ n + length front) × Good n q front s.entries s.asks
 
 found : (n q : ℕ) (parts : List (List ℕ)) (s : Sheet) → check_from (suc n) q parts ≡ Ok s → Found n q parts s
-found n q [] s h = absurd (apart (sym h))
+found n q [] s h = cc
 found n q (part ∷ []) s h =
     let a = must_ok (eqb (length part) 0) (at (suc n) 0 4) _ s h in
     let b = must_ok (ltb 8 (suc n)) (at (suc n) 0 15) _ s a.1 in
     let none = nil_from_length part (eqb-true (length part) 0 a.0) in
     let late = ltb-true 8 (suc n) b.0 in
-    subst (Found n q (part ∷ [])) (ok_same b.1) ([], ap (λ (p : List ℕ). p ∷ []) none, omega arith, none_good n q)
+    subst (Found n q (part ∷ [])) (cc b.1) ([], ap (λ (p : List ℕ). p ∷ []) none, omega arith, none_good n q)
 found n q (part ∷ next ∷ parts) s h =
     let a = bind_ok (row (suc n) q (parted tab part)) _ s h in
     let b = bind_ok (check_from (suc (suc n)) (q + requests_in a.0) (next ∷ parts)) _ s a.2 in
     let rest = found (suc n) (q + requests_in a.0) (next ∷ parts) b.0 b.1 in
     let late = rest.2 in
-    subst (Found n q (part ∷ next ∷ parts)) (ok_same b.2) (part ∷ rest.0, ap (λ (ps : List (List ℕ)). part ∷ ps) rest.1, omega arith, good_row n q part rest.0 a.0 b.0 a.1 rest.3)
+    subst (Found n q (part ∷ next ∷ parts)) (cc b.2) (part ∷ rest.0, ap (λ (ps : List (List ℕ)). part ∷ ps) rest.1, omega arith, good_row n q part rest.0 a.0 b.0 a.1 rest.3)
 
 pub accepted : (bytes : List ℕ) (s : Sheet) → check bytes ≡ Ok s → (bytes ≡ sheet_text s) × WellMade s
 accepted bytes s h =
@@ -79,8 +80,7 @@ unbroken : (fs : List (List ℕ)) → AllByRecursion (Free newline) fs → Unbro
 unbroken fs f = free_rejoined newline tab fs (λ e. omega arith) f
 
 calls_unbroken : (asks : List Ask) → AllByRecursion BothWritable asks → AllByRecursion Unbroken (map ask_fields asks)
-calls_unbroken [] w = tt
-calls_unbroken (a ∷ asks) w = (unbroken (ask_fields a) (ask_free newline a (omega arith) w.0), calls_unbroken asks w.1)
+calls_unbroken asks w = All-map Unbroken ask_fields asks (All-weaker BothWritable (λ a. Unbroken (ask_fields a)) (λ a w. unbroken (ask_fields a) (ask_free newline a (omega arith) w)) asks w)
 
 lines_unbroken : (n : ℕ) (es : List Entry) (asks : List Ask) → n + length es ≡ 8 → AllByRecursion Hangable es → AllByRecursion BothWritable asks → AllByRecursion Unbroken (lines_of n es asks)
 lines_unbroken n [] asks e₈ h w = calls_unbroken asks w

@@ -1,12 +1,6 @@
 -- Steps of the check: how they go on, and how they end with a fault.
-use Rattle.std.proofs.Common.{◌≡◌, ℕ, Bool, true, false, ◌⊎◌, Ok, Err, sym, refl, ap, inl, inr, arith}
+use Rattle.std.proofs.Common.{◌≡◌, Bool, true, false, ◌⊎◌, Ok, Err, refl, ap, inl, inr}
 use Rattle.sheet.specs.Faults.{Fault, Checked, ◌>>=◌, must}
-
-pub apart : {A : Type 0} {a : A} {f : Fault} → ◌≡◌ {A = Checked A} (Ok a) (Err f) → ⊥
-apart e = let z : ◌≡◌ {A = ℕ} 0 1 = cc in omega arith
-
-pub ok_same : {A : Type 0} {x y : A} → ◌≡◌ {A = Checked A} (Ok x) (Ok y) → x ≡ y
-ok_same e = cc
 
 -- a step that is passed
 pub bind_is : {A B : Type 0} {r : Checked A} {a : A} (next : A → Checked B) → r ≡ Ok a → (r >>= next) ≡ next a
@@ -18,11 +12,11 @@ must_is e next h = ap (λ t. must t e >>= next) h
 -- steps that were all passed
 pub bind_ok : {A B : Type 0} (r : Checked A) (next : A → Checked B) (b : B) → (r >>= next) ≡ Ok b → (a : A) × (r ≡ Ok a) × (next a ≡ Ok b)
 bind_ok (Ok a) next b h = (a, refl, h)
-bind_ok (Err e) next b h = absurd (apart (sym h))
+bind_ok (Err e) next b h = cc
 
 pub must_ok : {B : Type 0} (t : Bool) (e : Fault) (next : Unit {0} → Checked B) (b : B) → (must t e >>= next) ≡ Ok b → (t ≡ true) × (next tt ≡ Ok b)
 must_ok true e next b h = (refl, h)
-must_ok false e next b h = absurd (apart (sym h))
+must_ok false e next b h = cc
 
 -- steps that came to a fault: the first of them has it, or it was passed
 pub bind_err : {A B : Type 0} (r : Checked A) (next : A → Checked B) (f : Fault) → (r >>= next) ≡ Err f → (r ≡ Err f) ⊎ ((a : A) × (r ≡ Ok a) × (next a ≡ Err f))

@@ -35,7 +35,7 @@ stops_here : (n k c : ℕ) (cs : List ℕ) → k ≤ 13 → (is_ascii_digit c &&
 stops_here n k c cs h e = record { right = 0; is = omega arith; within = omega arith; few = omega arith; before = (n, refl); after = λ rest. cc }
 
 stops : (n k : ℕ) (cs : List ℕ) (b : ℕ) → k ≤ 13 → read_on n k cs ≡ Err b → Stops n k cs b
-stops n k [] b h e = let z : ◌≡◌ {A = ℕ} 0 1 = cc in absurd (omega arith)
+stops n k [] b h e = cc
 stops n k (c ∷ cs) b h e = go (is_ascii_digit c && ltb k 13) refl (stops (more n c) (suc k) cs b)
   where
     go : (t : Bool) → (is_ascii_digit c && ltb k 13) ≡ t → (suc k ≤ 13 → read_on (more n c) (suc k) cs ≡ Err b → Stops (more n c) (suc k) cs b) → Stops n k (c ∷ cs) b
@@ -62,7 +62,7 @@ wrong_digits c cs b e s =
         inr (h.0, subst (λ (x : ℕ). read_number (first x (c ∷ cs)) ≡ Ok h.0) back (cc h.1))
 
 wrong_zero : (c : ℕ) (cs : List ℕ) (b : ℕ) → eqb c 48 ≡ true → read_number (c ∷ cs) ≡ Err b → GoesWrong (c ∷ cs) b
-wrong_zero c [] b e h = let z : ◌≡◌ {A = ℕ} 0 1 = cc in absurd (omega arith)
+wrong_zero c [] b e h = cc
 wrong_zero c (d ∷ cs) b e h =
     let two : b ≡ 2 = cc in
     subst (GoesWrong (c ∷ d ∷ cs)) (sym two) (record {

@@ -1,5 +1,5 @@
 -- The check of a sheet, in the order of its checks: what its bytes say, or the first fault in them.
-use Rattle.std.specs.Prelude.{ℕ, suc, ◌+◌, ◌-◌, Bool, true, cond, ◌&&◌, List, [], ◌∷◌, length, drop, Some, None, Ok, Err, Option, ◌==◌, nat_le, nat_lt, slice_index_or}
+use Rattle.std.specs.Prelude.{ℕ, suc, ◌+◌, ◌-◌, Bool, true, if◌then◌else◌, ◌&&◌, List, [], ◌∷◌, length, drop, Some, None, Ok, Err, Option, ◌==◌, nat_le, nat_lt, slice_index_or}
 use Rattle.limits.specs.Strokes.{longest}
 use Rattle.sheet.specs.Numbers.{read_number}
 use Rattle.sheet.specs.Parts.{tab, newline, parted}
@@ -35,7 +35,7 @@ field_at i fields = slice_index_or fields (i - 1) []
 -- the kind that a field tells: it has to be just one of the four letters
 abbrev pub kind_of : List ℕ → Option Kind
 kind_of [] = None
-kind_of (c ∷ []) = cond (c == letter bell) (Some bell) (cond (c == letter (call Request)) (Some (call Request)) (cond (c == letter (call Take)) (Some (call Take)) (cond (c == letter (call Gap)) (Some (call Gap)) None)))
+kind_of (c ∷ []) = if c == letter bell then Some bell else if c == letter (call Request) then Some (call Request) else if c == letter (call Take) then Some (call Take) else if c == letter (call Gap) then Some (call Gap) else None
 kind_of (c ∷ d ∷ cs) = None
 
 -- what a line adds to the sheet

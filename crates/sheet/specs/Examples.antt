@@ -1,12 +1,12 @@
 -- Worked sheets, in one statement: what is written for each.
-use Rattle.std.specs.Prelude.{◌≡◌, ℕ, zero, suc, cond, List, [], ◌++◌, map, replicate, codes, ◌==◌}
+use Rattle.std.specs.Prelude.{◌≡◌, ℕ, zero, suc, if◌then◌else◌, List, [], ◌++◌, map, replicate, codes, ◌==◌}
 use Prim.Native.String.{String}
 use Rattle.sheet.specs.Parts.{tab, newline}
 use Rattle.sheet.specs.Listing.{listing}
 
 -- bytes as they are shown here: a blank stands for a tab, a slash for the end of a line
 abbrev pub typed : ℕ → ℕ
-typed c = cond (c == 32) tab (cond (c == 47) newline c)
+typed c = if c == 32 then tab else if c == 47 then newline else c
 
 -- the bytes that a text shows
 abbrev pub bytes : String → List ℕ

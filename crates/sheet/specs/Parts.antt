@@ -1,5 +1,5 @@
 -- Bytes cut into parts: a sheet into lines at each byte 10, a line into fields at each tab.
-use Rattle.std.specs.Prelude.{ℕ, zero, suc, ◌+◌, true, false, cond, List, [], ◌∷◌, ◌==◌}
+use Rattle.std.specs.Prelude.{ℕ, zero, suc, ◌+◌, if◌then◌else◌, List, [], ◌∷◌, ◌==◌}
 
 -- the byte that parts the fields of a line
 abbrev pub tab : ℕ
@@ -18,15 +18,15 @@ lengthened c (p ∷ ps) = (c ∷ p) ∷ ps
 -- `join_with_byte s` of std puts them together again
 abbrev pub parted : ℕ → List ℕ → List (List ℕ)
 parted s [] = [] ∷ []
-parted s (c ∷ cs) = elim (c == s) [ true ↦ [] ∷ parted s cs | false ↦ lengthened c (parted s cs) ]
+parted s (c ∷ cs) = if c == s then [] ∷ parted s cs else lengthened c (parted s cs)
 
 -- how many lines have their byte 10
 abbrev pub ends : List ℕ → ℕ
 ends [] = 0
-ends (c ∷ cs) = cond (c == newline) 1 0 + ends cs
+ends (c ∷ cs) = (if c == newline then 1 else 0) + ends cs
 
 -- the first k of these lines, each with its byte 10; all bytes where there are fewer
 abbrev pub first_lines : ℕ → List ℕ → List ℕ
 first_lines zero bytes = []
 first_lines (suc k) [] = []
-first_lines (suc k) (c ∷ cs) = c ∷ first_lines (cond (c == newline) k (suc k)) cs
+first_lines (suc k) (c ∷ cs) = c ∷ first_lines (if c == newline then k else suc k) cs

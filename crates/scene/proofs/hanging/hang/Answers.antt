@@ -8,5 +8,5 @@ returns c =
     let great : great_line c.in_ok-great.great ≡ great_bell = let e = c.in_ok-great.ensures in cc in
     let small : chime_line c.in_ok-small.small ≡ chime_bell = let e = c.in_ok-small.ensures in cc in
     let old : old_line c.in_ok-old.old ≡ old_bell = let e = c.in_ok-old.ensures in cc in
-    let right = c.new-right.ensures.bells ∙ (λ i. beside (alone (small i)) (alone (old i))) in
-    ap {B = Result Bells ℕ} Ok (c.new.ensures.bells ∙ (λ i. beside (alone (great i)) (right i)))
+    let right = c.new.ensures.bells ∙ (λ i. beside (alone (small i)) (alone (old i))) in
+    ap {B = Result Bells ℕ} Ok (c.new-2.ensures.bells ∙ (λ i. beside (alone (great i)) (right i)))

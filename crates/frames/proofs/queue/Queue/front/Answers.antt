@@ -1,9 +1,6 @@
-use Rattle.std.proofs.Common.{sym, arith}
-use Rattle.frames.proofs.Waiting.{ring_oldest}
+use Rattle.std.proofs.Common.{arith}
+use Rattle.std.proofs.lemmas.Grind.{common_steps}
 use Rattle.frames.proofs.queue.Queue.front.Goals as goal
 
 pub returns : goal.returns
-returns c =
-    let s = c.args.self.now in
-    let long = s.long in
-    sym (ring_oldest s.places s.first (omega (arith, s.inside)) s.count _ (omega arith) (omega (arith, s.few)))
+returns c = grind (arith, common_steps)

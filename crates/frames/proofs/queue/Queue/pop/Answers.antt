@@ -1,9 +1,8 @@
-use Rattle.std.proofs.Common.{◌≡◌, length, arith}
-use Rattle.frames.proofs.Waiting.{ring_others}
+use Rattle.std.proofs.Common.{◌-◌, arith}
+use Rattle.frames.proofs.Rings.{in_ring-pop}
 use Rattle.frames.proofs.queue.Queue.pop.Goals as goal
 
 pub returns-then-self-gt0 : goal.returns-then-self-gt0
 returns-then-self-gt0 c =
-    let s = c.args.self.now in
-    let long : length s.places ≡ 32 = s.long in
-    rw (← long) (ring_others s.places s.first (omega (arith, s.inside)) s.count (record { asked = 0; due = 0 }) (omega arith) (omega (arith, s.few)))
+    let q = c.args.self.now in
+    in_ring-pop q.ring (q.count - 1) (omega (arith, c.if-self-gt0.true))
