@@ -2,6 +2,8 @@
 use Rattle.std.specs.Prelude.{ℕ, max}
 use Rattle.limits.specs.Limits.{largest}
 use Rattle.limits.specs.Values.{burst_of, period_of, given}
+use Rattle.limits.specs.declared.stair.Stair.{Stair}
+use Rattle.limits.specs.declared.table.Table.{Table}
 use Rattle.rules.specs.Rules.{Meaning, open_rule}
 use Rattle.rules.specs.Layers.{layered, stair_own, table_own}
 use Rattle.rules.specs.declared.layer.Layer.{Layer}
@@ -13,14 +15,20 @@ use Rattle.rules.specs.declared.table_tally.TableTally.{TableTally}
 abbrev pub open_means : OpenRule → Meaning
 open_means r = open_rule r.last
 
--- a stair alone, with what it remembers, and how long it can bar the next stroke
+-- the stair whose strokes are counted; that stair alone, with what it remembers; and how long it can bar the next stroke
+abbrev pub stair_tally_limit : StairTally → Stair
+stair_tally_limit s = s.stair
+
 abbrev pub stair_tally_own : StairTally → Meaning
 stair_tally_own s = stair_own (burst_of s.stair) (period_of s.stair) s.whole
 
 abbrev pub stair_tally_span : StairTally → ℕ
 stair_tally_span s = period_of s.stair
 
--- a table alone
+-- the same of a table
+abbrev pub table_tally_limit : TableTally → Table
+table_tally_limit s = s.table
+
 abbrev pub table_tally_own : TableTally → Meaning
 table_tally_own s = table_own (given s.table) s.past
 

@@ -25,13 +25,13 @@ impl Tally for StairTally {
     ghost use Rattle.rules.specs.Lots.{FirstLot, SecondLot};
     ghost use Rattle.rules.specs.Rules.{Meaning, Order, laid};
     ghost use Rattle.rules.specs.StairLaws.{stair_begins, stair_early, stair_late, stair_reach};
-    ghost use Rattle.rules.specs.Values.{stair_tally_own, stair_tally_span};
+    ghost use Rattle.rules.specs.Values.{stair_tally_limit, stair_tally_own, stair_tally_span};
 
     type Limit = Stair;
 
     ghost numbers = { stair_of };
 
-    ghost limit_of = { λ s. s.stair };
+    ghost limit_of = { stair_tally_limit };
 
     ghost own = { stair_tally_own };
 
@@ -48,7 +48,7 @@ impl Tally for StairTally {
     ghost bounded = { λ s. s.stair.short };
 
     fn new(stair: Stair) -> StairTally
-        ensures limit { result.stair ≡ stair }
+        ensures limit { stair_tally_limit result ≡ stair }
         ensures laid { (m : Meaning) → Order m → layered (stair_tally_own result) m ≡ laid (stair_of stair) m }
         ensures keeps { (ts : List ℕ) → IsTrue (keeps (stair_of stair) ts) ↔ KeepsStair (burst_of stair) (period_of stair) ts }
         ensures span { stair_tally_span result ≡ period_of stair }

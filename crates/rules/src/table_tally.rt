@@ -40,13 +40,13 @@ impl Tally for TableTally {
     ghost use Rattle.rules.specs.Lots.{FirstLot, SecondLot};
     ghost use Rattle.rules.specs.Rules.{Meaning, Order, laid};
     ghost use Rattle.rules.specs.TableLaws.{table_begins, table_early, table_late, table_reach};
-    ghost use Rattle.rules.specs.Values.{table_tally_own, table_tally_span};
+    ghost use Rattle.rules.specs.Values.{table_tally_limit, table_tally_own, table_tally_span};
 
     type Limit = Table;
 
     ghost numbers = { table_of };
 
-    ghost limit_of = { λ s. s.table };
+    ghost limit_of = { table_tally_limit };
 
     ghost own = { table_tally_own };
 
@@ -63,7 +63,7 @@ impl Tally for TableTally {
     ghost bounded = { λ s. s.table.short };
 
     fn new(table: Table) -> TableTally
-        ensures limit { result.table ≡ table }
+        ensures limit { table_tally_limit result ≡ table }
         ensures laid { (m : Meaning) → Order m → layered (table_tally_own result) m ≡ laid (table_of table) m }
         ensures keeps { (ts : List ℕ) → IsTrue (keeps (table_of table) ts) ↔ KeepsTable (given table) ts }
         ensures span { table_tally_span result ≡ largest (given table) }
