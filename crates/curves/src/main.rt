@@ -3,7 +3,7 @@
 
 use laid::{chime_drum, five_dues, nine_dues, ten_dues, three_stairs, two_distances};
 use records::Stroke;
-use rules::Tally;
+use rules::LimitTally;
 use telling::{tell_audit, tell_dues, tell_stair, tell_table};
 
 mod laid;
@@ -18,7 +18,7 @@ fn stroke(bell: u64, tick: u64) -> Stroke {
     }
 }
 
-fn tell_stairs(rt: &(impl Print + AllocGlobal)) -> anyhow::Result<()> {
+fn tell_stairs(rt: &impl Print) -> anyhow::Result<()> {
     let mut rule = three_stairs()?;
     println!(rt; "Three stairs, each laid on the next. In any stretch of time there are")?;
     tell_stair(rt, rule.tally.limit())?;
@@ -36,10 +36,11 @@ fn tell_stairs(rt: &(impl Print + AllocGlobal)) -> anyhow::Result<()> {
         stroke(1, 11),
         stroke(1, 16),
     ];
-    tell_audit(rt, 1, &trace, &mut rule)
+    tell_audit(rt, 1, &trace, &mut rule)?;
+    Ok(())
 }
 
-fn tell_distances(rt: &(impl Print + AllocGlobal)) -> anyhow::Result<()> {
+fn tell_distances(rt: &impl Print) -> anyhow::Result<()> {
     let mut rule = two_distances()?;
     println!(rt; "A table. There are")?;
     tell_table(rt, &rule.tally.limit())?;
@@ -52,10 +53,11 @@ fn tell_distances(rt: &(impl Print + AllocGlobal)) -> anyhow::Result<()> {
         stroke(1, 39),
         stroke(1, 60),
     ];
-    tell_audit(rt, 1, &trace, &mut rule)
+    tell_audit(rt, 1, &trace, &mut rule)?;
+    Ok(())
 }
 
-fn tell_drum(rt: &(impl Print + AllocGlobal)) -> anyhow::Result<()> {
+fn tell_drum(rt: &impl Print) -> anyhow::Result<()> {
     let mut rule = chime_drum()?;
     println!(rt;
         "A chime drum strikes every 100 ms, each stroke up to 300 ms late, and none less than 20 ms after another."
@@ -73,7 +75,8 @@ fn tell_drum(rt: &(impl Print + AllocGlobal)) -> anyhow::Result<()> {
         stroke(1, 99),
         stroke(1, 200),
     ];
-    tell_audit(rt, 1, &trace, &mut rule)
+    tell_audit(rt, 1, &trace, &mut rule)?;
+    Ok(())
 }
 
 fn main(rt: HostRuntime) -> anyhow::Result<()> {

@@ -1,5 +1,4 @@
 // The sentences that this program prints.
-use itertools::Itertools;
 use limits::{Stair, Table};
 use records::{Stroke, audit};
 use rules::Rule;
@@ -39,32 +38,44 @@ pub(super) fn tell_table(rt: &impl Print, table: &Table) -> io::Result<()> {
     Ok(())
 }
 
-pub(super) fn tell_dues(rt: &(impl Print + AllocGlobal), due: &[u64]) -> anyhow::Result<()> {
-    let ticks = due.iter().join(rt.alloc(), ", ")?;
+// "0, 10, 30".
+#[derive(Clone, Copy, Debug)]
+struct Ticks<'a>(&'a [u64]);
+
+impl fmt::Display for Ticks<'_> {
+    fn fmt<W: fmt::Write>(&self, f: &mut fmt::Formatter<W>) -> fmt::Result {
+        if let Some((first, others)) = self.0.split_first() {
+            write!(f, "{first}")?;
+            for tick in others {
+                write!(f, ", {tick}")?;
+            }
+        }
+        Ok(())
+    }
+}
+
+pub(super) fn tell_dues(rt: &impl Print, due: &[u64]) -> io::Result<()> {
     println!(rt;
-        "{} asked for at 0 ms, each as early as that allows, are due at {ticks} ms.",
-        Strokes(due.len() as u64)
-    )?;
-    Ok(())
+        "{} asked for at 0 ms, each as early as that allows, are due at {} ms.",
+        Strokes(due.len() as u64),
+        Ticks(due)
+    )
 }
 
 // What the audit of one bell's strokes finds.
 pub(super) fn tell_audit(
-    rt: &(impl Print + AllocGlobal),
+    rt: &impl Print,
     bell: u64,
     trace: &[Stroke],
     rule: &mut impl Rule,
-) -> anyhow::Result<()> {
-    let ticks = trace
-        .iter()
-        .filter(|stroke| stroke.bell == bell)
-        .map(|stroke| stroke.due)
-        .join(rt.alloc(), " ")?;
-    print!(rt; "A recorder wrote down bell {bell} at {ticks} ms: ")?;
-    match audit(trace, bell, rule) {
-        None => println!(rt; "no stroke too many.")?,
-        Some(place) => println!(rt; "stroke {place} is one too many, and came too soon.")?,
+) -> io::Result<()> {
+    print!(rt; "A recorder wrote down bell {bell} at")?;
+    for stroke in trace.iter().filter(|stroke| stroke.bell == bell) {
+        print!(rt; " {}", stroke.due)?;
     }
-    println!(rt; "")?;
-    Ok(())
+    match audit(trace, bell, rule) {
+        None => println!(rt; " ms: no stroke too many.")?,
+        Some(place) => println!(rt; " ms: stroke {place} is one too many, and came too soon.")?,
+    }
+    println!(rt; "")
 }

@@ -65,6 +65,23 @@ mod tests {
     }
 
     #[test]
+    fn a_table_and_a_rule_that_are_passed_on_stay(rt: HostRuntime) -> Result<(), Fail> {
+        let mut table = Table::new();
+        table.push(10)?;
+        let once = TableOn::new(table, OpenRule::new());
+        let twice = TableOn::new(table, TableOn::new(table, OpenRule::new()));
+        for mut rule in [once, once] {
+            assert_eq!(rt; rule.strike(0), Ok(()));
+            assert_eq!(rt; rule.earliest(0), Ok(Some(10)));
+        }
+        let mut rule = twice;
+        assert_eq!(rt; rule.strike(0), Ok(()));
+        assert_eq!(rt; rule.earliest(0), Ok(Some(10)));
+        assert_eq!(rt; twice.earliest(0), Ok(Some(0)));
+        Ok(())
+    }
+
+    #[test]
     fn a_limit_on_a_rule_that_was_struck(rt: HostRuntime) -> Result<(), Fail> {
         let mut below = StairOn::new(Stair::new(1, 100)?, OpenRule::new());
         below.strike(50)?;

@@ -22,7 +22,8 @@ module _ (f : Bells) (fr : Fresh f) (cs : List Call) where
   none_dated : (n : ℕ) (o : Option Bell) → f n ≡ o → Dated o None
   none_dated n o e = grind (arith, fr n)
 
-  queued_so_far : (k n : ℕ) → granted (so_far k n cs (answers f cs)) ≡ handed (so_far k n cs (answers f cs)) ++ held (leaves f (first k cs) n)
+  -- the granted strokes are those handed out, and then those that wait, in order
+  pub queued_so_far : (k n : ℕ) → granted (so_far k n cs (answers f cs)) ≡ handed (so_far k n cs (answers f cs)) ++ held (leaves f (first k cs) n)
   queued_so_far k n = rw (first_run k n f cs, leaves_is f n (first k cs)) (rw (none_held n (f n) refl) at (queued_run (f n) (asked_of n (first k cs))))
 
   balanced_so_far : (k n w : ℕ) → answered (leaves f (first k cs)) n Waiting ≡ Ok (Waits w) → length (granted (so_far k n cs (answers f cs))) ≡ length (handed (so_far k n cs (answers f cs))) + w

@@ -4,5 +4,5 @@ pub mod Refusals
 pub mod Making
 pub mod Jitter
 pub mod Rows
-pub mod RowLaws
+pub mod RowNumbers
 pub mod Values

@@ -1,6 +1,7 @@
 -- What the values of the code stand for: limits by their numbers.
 use Rattle.std.specs.Prelude.{ℕ, List}
 use Rattle.limits.specs.Limits.{Limit, stair, table}
+use Rattle.limits.specs.RowNumbers.{in_row}
 use Rattle.limits.specs.declared.jitter.JitteredOrder.{JitteredOrder}
 use Rattle.limits.specs.declared.stair.Stair.{Stair}
 use Rattle.limits.specs.declared.table.Table.{Table}
@@ -16,7 +17,7 @@ stair_of s = stair (burst_of s) (period_of s)
 
 -- a table's given distances
 abbrev pub given : Table → List ℕ
-given x = x.distances
+given x = in_row x.distances
 
 abbrev pub table_of : Table → Limit
 table_of x = table (given x)

@@ -1,6 +1,7 @@
 // The table as a value: how far a stroke has to lie from each of those before it.
 ghost use Rattle.std.specs.Prelude.{◌≡◌, ◌≤◌, length, IsTrue};
 ghost use Rattle.limits.specs.Limits.{largest};
+ghost use Rattle.limits.specs.RowNumbers.{in_row};
 ghost use Rattle.limits.specs.Strokes.{longest, never_falls};
 ghost use Rattle.limits.specs.declared.table.TheConstants.{MOST_DISTANCES};
 
@@ -14,9 +15,9 @@ pub const MOST_DISTANCES: usize = 16;
 #[derive(Clone, Copy, Debug, PartialEq, Eq)]
 pub struct Table {
     distances: Row<MOST_DISTANCES>,
-    ghost few: { length distances ≤ MOST_DISTANCES },
-    ghost rising: { IsTrue (never_falls distances) },
-    ghost short: { largest distances ≤ longest },
+    ghost few: { length (in_row distances) ≤ MOST_DISTANCES },
+    ghost rising: { IsTrue (never_falls (in_row distances)) },
+    ghost short: { largest (in_row distances) ≤ longest },
 }
 
 impl Table {

@@ -11,10 +11,12 @@ pub fn audit<T: Record, R: Rule>(records: &[T], bell: u64, rule: &mut R) -> Opti
     ensures audited { Audited (R.Rule.meaning rule.old) (ticks_of T.Record.rings T.Record.falls bell records.now) result (R.Rule.meaning rule.new) }
     ensures reach { R.Rule.reaches rule.new ≡ R.Rule.reaches rule.old }
 {
-    let mine = |record: &&T| record.bell() == bell;
+    let mut others = 0;
     for (i, record) in records.iter().enumerate() {
-        if mine(&record) && rule.strike(record.tick()).is_err() {
-            return Some(records[..=i].iter().filter(mine).count());
+        if record.bell() != bell {
+            others += 1;
+        } else if rule.strike(record.tick()).is_err() {
+            return Some(i + 1 - others);
         }
     }
     None

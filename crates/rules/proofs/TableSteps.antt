@@ -1,5 +1,5 @@
 -- A table's past: what it bars, and what an accepted stroke leaves; and a table as laid is the layer at its start.
-use Rattle.std.proofs.Common.{◌≡◌, ℕ, zero, suc, ◌+◌, ◌≤◌, min, max, ◌&&◌, leb, List, [], ◌∷◌, length, take, Some, sym, refl, ap, ◌∙◌, arith}
+use Rattle.std.proofs.Common.{◌≡◌, ℕ, zero, suc, ◌+◌, ◌<◌, ◌≤◌, min, max, ◌&&◌, leb, List, [], ◌∷◌, length, get_or, take, Some, sym, refl, ap, ◌∙◌, arith}
 use Rattle.std.proofs.lemmas.List.{take-take}
 use Rattle.std.proofs.lemmas.Bool.Decides.{nat_tests}
 use Rattle.limits.specs.Limits.{table, keeps, largest, largest_sum}
@@ -72,3 +72,9 @@ pub no_sum : (ds xs : List ℕ) → min (length ds) (length xs) ≡ 0 → larges
 no_sum [] xs e = refl
 no_sum (d ∷ ds) [] e = refl
 no_sum (d ∷ ds) (x ∷ xs) e = absurd (omega arith)
+
+-- the largest of a list is no smaller than each of it
+pub largest_at : (xs : List ℕ) (k : ℕ) → k < length xs → get_or xs k 0 ≤ largest xs
+largest_at [] k l = absurd (omega arith)
+largest_at (x ∷ xs) zero l = omega arith
+largest_at (x ∷ xs) (suc k) l = let rest = largest_at xs k (omega arith) in omega arith

@@ -1,6 +1,7 @@
 -- What the values of the code stand for: rules by what they mean.
 use Rattle.std.specs.Prelude.{ℕ, max}
 use Rattle.limits.specs.Limits.{largest}
+use Rattle.limits.specs.RowNumbers.{in_row}
 use Rattle.limits.specs.Values.{burst_of, period_of, given}
 use Rattle.limits.specs.declared.stair.Stair.{Stair}
 use Rattle.limits.specs.declared.table.Table.{Table}
@@ -30,7 +31,7 @@ abbrev pub table_tally_limit : TableTally → Table
 table_tally_limit s = s.table
 
 abbrev pub table_tally_own : TableTally → Meaning
-table_tally_own s = table_own (given s.table) s.past
+table_tally_own s = table_own (given s.table) (in_row s.past)
 
 abbrev pub table_tally_span : TableTally → ℕ
 table_tally_span s = largest (given s.table)

@@ -2,11 +2,13 @@
 ghost use Rattle.std.specs.Prelude.{◌≡◌, ◌↔◌, ℕ, max, List, IsTrue};
 ghost use Rattle.limits.specs.Limits.{Keeps};
 ghost use Rattle.rules.specs.Layers.{longest_bar};
+ghost use Rattle.rules.specs.Lots.{KeepsLots, Measured};
 ghost use Rattle.rules.specs.Rules.{laid};
 ghost use Rattle.rules.specs.Values.{layer_means, layer_reach};
 ghost use Rattle.rules.specs.LayerLaws.{layered_order, layered_early, layered_late, layered_reach};
 ghost use Rattle.std.proofs.Common.{rules};
 
+use crate::limit_tally::LimitTally;
 use crate::opening::first_open;
 use crate::rule::Rule;
 use crate::stair_tally::StairTally;
@@ -26,14 +28,16 @@ pub type StairOn<R> = Layer<StairTally, R>;
 // A table on a rule.
 pub type TableOn<R> = Layer<TableTally, R>;
 
-impl<T: Tally, R: Rule> Layer<T, R> {
+impl<T: LimitTally, R: Rule> Layer<T, R> {
     // Lays a limit on a rule, which may have been struck before.
     pub fn new(limit: T::Limit, below: R) -> Layer<T, R>
-        ensures limit { T.Tally.limit_of result.tally ≡ limit }
+        ensures limit { T.LimitTally.limit_of result.tally ≡ limit }
         ensures below { result.below ≡ below }
-        ensures laid { layer_means T.Tally.own R.Rule.meaning result ≡ laid (T.Tally.numbers limit) (R.Rule.meaning below) }
-        ensures keeps { (ts : List ℕ) → IsTrue ((layer_means T.Tally.own R.Rule.meaning result).allows ts) ↔ (IsTrue ((R.Rule.meaning below).allows ts) × Keeps (T.Tally.numbers limit) ts) }
-        ensures reach { layer_reach T.Tally.span R.Rule.reaches result ≡ max (R.Rule.reaches below) (longest_bar (T.Tally.numbers limit)) }
+        ensures laid { layer_means T.Tally.own R.Rule.meaning result ≡ laid (T.LimitTally.numbers limit) (R.Rule.meaning below) }
+        ensures keeps { (ts : List ℕ) → IsTrue ((layer_means T.Tally.own R.Rule.meaning result).allows ts) ↔ (IsTrue ((R.Rule.meaning below).allows ts) × Keeps (T.LimitTally.numbers limit) ts) }
+        ensures reach { layer_reach T.Tally.span R.Rule.reaches result ≡ max (R.Rule.reaches below) (longest_bar (T.LimitTally.numbers limit)) }
+        ensures lots { KeepsLots (T.LimitTally.numbers limit) }
+        ensures distances { Measured (T.LimitTally.numbers limit) }
     {
         Layer {
             tally: T::new(limit),
@@ -63,7 +67,9 @@ impl<T: Tally, R: Rule> Rule for Layer<T, R> {
         self.tally.opens() <= t && self.below.may(t)
     }
 
+    // A tick past the last one is refused before the limit looks.
     fn earliest(&self, t: u64) -> Result<Option<u64>, Refusal> {
+        up_to_last(t)?;
         let Some(from) = first_open(t, self.tally.opens())? else {
             return Ok(None);
         };

@@ -3,6 +3,7 @@
 
 mod bursting;
 mod layer;
+mod limit_tally;
 mod open_rule;
 mod opening;
 mod rule;
@@ -12,6 +13,7 @@ mod tally;
 
 pub use bursting::burst;
 pub use layer::{Layer, StairOn, TableOn};
+pub use limit_tally::LimitTally;
 pub use open_rule::OpenRule;
 pub use rule::Rule;
 pub use stair_tally::StairTally;

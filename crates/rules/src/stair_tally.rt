@@ -7,6 +7,7 @@ ghost use Rattle.std.specs.Prelude.{◌≡◌, ◌+◌, ◌*◌, ◌≤◌};
 ghost use Rattle.limits.specs.Values.{burst_of, period_of};
 ghost use Rattle.limits.specs.Strokes.{last_tick};
 
+use crate::limit_tally::LimitTally;
 use crate::tally::Tally;
 use limits::{LAST_TICK, Stair};
 
@@ -18,20 +19,8 @@ pub struct StairTally {
 }
 
 impl Tally for StairTally {
-    ghost use Rattle.std.specs.Prelude.{◌↔◌, ℕ, List, IsTrue};
-    ghost use Rattle.limits.specs.Limits.{keeps, KeepsStair};
-    ghost use Rattle.limits.specs.Values.{stair_of};
-    ghost use Rattle.rules.specs.Layers.{layered, stair_own};
-    ghost use Rattle.rules.specs.Lots.{FirstLot, SecondLot};
-    ghost use Rattle.rules.specs.Rules.{Meaning, Order, laid};
     ghost use Rattle.rules.specs.StairLaws.{stair_begins, stair_early, stair_late, stair_reach};
-    ghost use Rattle.rules.specs.Values.{stair_tally_limit, stair_tally_own, stair_tally_span};
-
-    type Limit = Stair;
-
-    ghost numbers = { stair_of };
-
-    ghost limit_of = { stair_tally_limit };
+    ghost use Rattle.rules.specs.Values.{stair_tally_own, stair_tally_span};
 
     ghost own = { stair_tally_own };
 
@@ -46,20 +35,6 @@ impl Tally for StairTally {
     ghost reached = { λ s. stair_reach s.stair.burst s.stair.period s.whole s.stair.some };
 
     ghost bounded = { λ s. s.stair.short };
-
-    fn new(stair: Stair) -> StairTally
-        ensures limit { stair_tally_limit result ≡ stair }
-        ensures laid { (m : Meaning) → Order m → layered (stair_tally_own result) m ≡ laid (stair_of stair) m }
-        ensures keeps { (ts : List ℕ) → IsTrue (keeps (stair_of stair) ts) ↔ KeepsStair (burst_of stair) (period_of stair) ts }
-        ensures span { stair_tally_span result ≡ period_of stair }
-        ensures lots { (w : ℕ) → FirstLot (layered (stair_own (burst_of stair) (period_of stair) w)) × SecondLot (layered (stair_own (burst_of stair) (period_of stair) w)) (period_of stair) }
-    {
-        StairTally { stair, whole: 0 }
-    }
-
-    fn limit(&self) -> Stair {
-        self.stair
-    }
 
     fn opens(&self) -> u64 {
         let spent = self.whole + self.stair.period();
@@ -78,5 +53,35 @@ impl Tally for StairTally {
 
     fn span(&self) -> u64 {
         self.stair.period()
+    }
+}
+
+impl LimitTally for StairTally {
+    ghost use Rattle.std.specs.Prelude.{◌↔◌, ℕ, List, IsTrue};
+    ghost use Rattle.limits.specs.Limits.{keeps, KeepsStair};
+    ghost use Rattle.limits.specs.Values.{stair_of};
+    ghost use Rattle.rules.specs.Layers.{layered, stair_own};
+    ghost use Rattle.rules.specs.Lots.{FirstLot, SecondLot};
+    ghost use Rattle.rules.specs.Rules.{Meaning, Order, laid};
+    ghost use Rattle.rules.specs.Values.{stair_tally_limit, stair_tally_own, stair_tally_span};
+
+    type Limit = Stair;
+
+    ghost numbers = { stair_of };
+
+    ghost limit_of = { stair_tally_limit };
+
+    fn new(stair: Stair) -> StairTally
+        ensures limit { stair_tally_limit result ≡ stair }
+        ensures laid { (m : Meaning) → Order m → layered (stair_tally_own result) m ≡ laid (stair_of stair) m }
+        ensures keeps { (ts : List ℕ) → IsTrue (keeps (stair_of stair) ts) ↔ KeepsStair (burst_of stair) (period_of stair) ts }
+        ensures span { stair_tally_span result ≡ period_of stair }
+        ensures lots { (w : ℕ) → FirstLot (layered (stair_own (burst_of stair) (period_of stair) w)) × SecondLot (layered (stair_own (burst_of stair) (period_of stair) w)) (period_of stair) }
+    {
+        StairTally { stair, whole: 0 }
+    }
+
+    fn limit(&self) -> Stair {
+        self.stair
     }
 }

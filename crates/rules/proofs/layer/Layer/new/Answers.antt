@@ -5,4 +5,4 @@ use Rattle.rules.proofs.layer.Layer.new.Goals as goal
 pub returns-clause-keeps : goal.returns-clause-keeps
 returns-clause-keeps g c =
     let m = g.R.Rule.meaning c.args.below in
-    laid_exactly (g.T.Tally.numbers c.args.limit) m (layered (g.T.Tally.own c.new.result) m) (c.new.ensures.laid m (g.met.R.Rule.order c.args.below)) c.new.ensures.keeps
+    laid_exactly (g.T.LimitTally.numbers c.args.limit) m (layered (g.T.Tally.own c.new.result) m) (c.new.ensures.laid m (g.met.R.Rule.order c.args.below)) c.new.ensures.keeps

@@ -6,7 +6,7 @@ use Rattle.rules.specs.TableLaws.{table_begins, table_early, table_late, table_r
 use Rattle.rules.proofs.Tables.{decides_table}
 use Rattle.rules.proofs.TableDistances.{distances}
 use Rattle.rules.proofs.TableSteps.{table_laid}
-use Rattle.rules.proofs.table_tally.TableTallyTally.new.Goals as goal
+use Rattle.rules.proofs.table_tally.TableTallyLimitTally.new.Goals as goal
 
 pub returns : goal.returns
 returns c =

@@ -4,7 +4,7 @@ use Rattle.rules.specs.LayerLaws.{first_lot, second_lot}
 use Rattle.rules.specs.StairLaws.{stair_begins, stair_early, stair_late, stair_reach}
 use Rattle.rules.proofs.Stairs.{decides_stair}
 use Rattle.rules.proofs.StairSteps.{stair_laid}
-use Rattle.rules.proofs.stair_tally.StairTallyTally.new.Goals as goal
+use Rattle.rules.proofs.stair_tally.StairTallyLimitTally.new.Goals as goal
 
 pub returns : goal.returns
 returns c =
