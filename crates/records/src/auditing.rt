@@ -11,12 +11,14 @@ pub fn audit<T: Record, R: Rule>(records: &[T], bell: u64, rule: &mut R) -> Opti
     ensures audited { Audited (R.Rule.meaning rule.old) (ticks_of T.Record.rings T.Record.falls bell records.now) result (R.Rule.meaning rule.new) }
     ensures reach { R.Rule.reaches rule.new ≡ R.Rule.reaches rule.old }
 {
-    let mut others = 0;
+    let mut place = 0;
     for (i, record) in records.iter().enumerate() {
-        if record.bell() != bell {
-            others += 1;
-        } else if rule.strike(record.tick()).is_err() {
-            return Some(i + 1 - others);
+        if record.bell() == bell {
+            prove!(place <= i);
+            place += 1;
+            if rule.strike(record.tick()).is_err() {
+                return Some(place);
+            }
         }
     }
     None
